@@ -1,0 +1,10 @@
+pub mod Demand
+pub mod Margins
+pub mod Sleeps
+pub mod Points
+pub mod Standing
+pub mod Walks
+pub mod Plans
+pub mod Computed
+pub mod Verdict
+pub mod Texts

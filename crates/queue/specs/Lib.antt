@@ -1,0 +1,3 @@
+pub mod Order
+pub mod Queue
+pub mod Sift

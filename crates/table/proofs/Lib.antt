@@ -1,0 +1,17 @@
+pub mod Loops
+pub mod Words
+pub mod Along
+pub mod Keywords
+pub mod Divisors
+pub mod Drafting
+pub mod Names
+pub mod Lined
+pub mod Texts
+pub mod Forms
+pub mod Places
+pub mod Lawful
+pub mod Begins
+pub mod Decides
+pub mod Follows
+pub mod Judged
+pub mod Naming

@@ -1,0 +1,16 @@
+pub mod Tasks
+pub mod Rows
+pub mod Limits
+pub mod Form
+pub mod Lines
+pub mod Scan
+pub mod Bytes
+pub mod Tokens
+pub mod Steps
+pub mod RowLines
+pub mod Common
+pub mod Texts
+pub mod Verdict
+pub mod Drafts
+pub mod Readings
+pub mod Names
