@@ -1,0 +1,5 @@
+pub mod Queueing
+pub mod Fronts
+pub mod Keeping
+pub mod Acts
+pub mod Making

@@ -1,0 +1,4 @@
+pub mod Turns
+pub mod Jobs
+pub mod Cores
+pub mod Boards

@@ -1,0 +1,16 @@
+pub mod Waits
+pub mod Sums
+pub mod Demand
+pub mod Claims
+pub mod Room
+pub mod Cells
+pub mod Runs
+pub mod Sane
+pub mod Told
+pub mod Due
+pub mod Sleep
+pub mod Progress
+pub mod Always
+pub mod Longer
+pub mod Exact
+pub mod Promises

@@ -1,0 +1,6 @@
+pub mod Views
+pub mod Steps
+pub mod Logs
+pub mod Plans
+pub mod Promises
+pub mod Exact
