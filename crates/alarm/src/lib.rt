@@ -2,6 +2,8 @@
 //!
 //! An alarm is set to a wait, lets ticks go by, and rings. `Counter` and `Divider` stand for timers in hardware;
 //! `Ramp` and `TopUp` are layers over any alarm, another layer included.
+#![tactic(auto)]
+
 pub mod base;
 pub mod counter;
 pub mod divider;

@@ -1,4 +1,6 @@
 //! Shows the alarms at work: the waits that each kind chooses, and that piles of kinds ring when they said.
+#![tactic(auto)]
+
 mod drive;
 mod figures;
 mod piles;

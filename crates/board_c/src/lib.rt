@@ -2,6 +2,8 @@
 //!
 //! Calls and answers cross as numbers: `codes` has the two codes. Nothing is kept between two calls of the library, and
 //! nothing is allocated.
+#![tactic(auto)]
+
 ghost use Rattle.std.specs.Prelude.{◌≤◌, length};
 ghost use mir.Syntax.{Dict};
 ghost use Rattle.alarm.specs.contracts.ramp.RampAlarm.TheImpl.{ghosts as rampOver};

@@ -2,6 +2,8 @@
 //!
 //! `errand` is a caller of the board in another crate: what the board's builder promises of every list of calls holds of
 //! the calls that it makes, by their contracts alone.
+#![tactic(auto)]
+
 ghost use Rattle.std.specs.Prelude.{◌≡◌, List, [], ◌∷◌};
 ghost use Rattle.rules.specs.declared.calls.Call.TheVariants.{Release, Tick};
 ghost use Rattle.rules.specs.Steps.{Entry};

@@ -1,5 +1,7 @@
 //! The worked figures: how many hold by the rules, and when the cutter's board rings by its code. `trials` prints what the
 //! code answers to the tables' figures, and `alarm_piles` what it answers to the alarms'.
+#![tactic(auto)]
+
 mod cutter;
 mod premises;
 mod table;

@@ -5,6 +5,8 @@
 //! no window, however long, can be asked for more ticks than it has; the sleep of a row is the smallest margin
 //! t - need(t) of all windows at least as long as its due. `walk` meets the points at which the need grows in time
 //! order, `sleeps` makes all sleeps from one such walk, and `plan` is what a caller gets.
+#![tactic(auto)]
+
 mod period;
 pub mod plan;
 mod point;

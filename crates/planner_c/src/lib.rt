@@ -1,4 +1,6 @@
 //! The planner for programs in C and Rust: two calls on a table's text, which keep nothing between them.
+#![tactic(auto)]
+
 ghost use Rattle.std.specs.Prelude.{◌≡◌, ◌+◌, ◌<◌};
 ghost use Rattle.planner.specs.Texts.{answer_to};
 ghost use Rattle.planner_c.specs.Calls.{checked, quoted, Checks, Quotes};

@@ -5,6 +5,8 @@
 //! holds; that the answer is the smallest, and that the elements are a queue again, is promised where they were one.
 //! A `len` past the end of the slice is no queue: it is refused as a full or an empty one is, and the slice stays as it
 //! was. The places past the queue's own are never touched.
+#![tactic(auto)]
+
 ghost use Rattle.std.specs.Prelude.{◌≡◌, ◌+◌, ◌-◌, ◌<◌, ◌≤◌, length, take, MatchOption, MatchResult, slice_index_or};
 ghost use Rattle.std.specs.List.{ContainsAt as Has};
 ghost use Rattle.queue.specs.Queue.{First, Entered, Left, Replaced, Vacant, Absent};

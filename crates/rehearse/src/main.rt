@@ -2,6 +2,8 @@
 //!
 //! ALARM is `counter` or `divider`, or one of these under a layer: `ramp:W:counter` with a warm-up of W ticks,
 //! `top_up:divider` and the like. TABLE is a file with a table's text; CALLS has one call a line, as `script` reads them.
+#![tactic(auto)]
+
 mod kinds;
 mod script;
 mod show;

@@ -5,6 +5,8 @@
 //! can be told from a log of calls alone, and `specs/Promises.antt` what every log keeps: no due tick is missed, no
 //! sleep is cut short, and no longer sleeps would do. The functions below carry the theorems: every run of the rules
 //! keeps the promises, every call has a step, and the words of the promises speak of every job, sleep and waking.
+#![tactic(auto)]
+
 ghost use Rattle.rules.specs.Promises.{PromisesKept, Goes_on};
 ghost use Rattle.rules.specs.Exact.{OpenExact, BeginsAsleep, AsleepBegins, WakesExact, AwakeBusy, SomePlan};
 

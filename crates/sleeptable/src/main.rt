@@ -1,6 +1,8 @@
 //! `sleeptable`: reads a table's text from standard input, and prints its plan or the record of its refusal.
 //!
 //! A refusal is also told to a person, on standard error, and the program then ends with status 1.
+#![tactic(auto)]
+
 ghost use Rattle.std.specs.Prelude.{◌≤◌, length, IfOk};
 
 use anyhow::anyhow;

@@ -1,4 +1,5 @@
 //! The examples of docs/table-text.md, as tests.
+#![tactic(auto)]
 
 #[cfg(test)]
 mod tests {

@@ -1,4 +1,6 @@
 //! Tries the reader and the planner on texts at the edge of every rule, and prints what each gets.
+#![tactic(auto)]
+
 mod made;
 mod typed;
 
