@@ -4,6 +4,6 @@ use Rattle.alarm.proofs.divider.last_boundary.Goals as goal
 
 pub returns : goal.returns
 returns c = record {
-  nearest = quotient_chooses c.args.phase c.args.k c.saturating-sub.result c.requires.turning c.requires.reach (omega arith);
+  nearest = quotient_chooses c.args.phase c.args.k c.saturating_sub.result c.requires.turning c.requires.reach (omega arith);
   near = omega arith;
 }
