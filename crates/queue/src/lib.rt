@@ -19,7 +19,7 @@ mod sift;
 
 /// Adds `x`, and says how many there are then. A full queue hands `x` back.
 pub fn push<T: Precedes>(heap: &mut [T], len: usize, x: T) -> Result<usize, T>
-    ensures { MatchResult result (λ n. Entered before x heap.old len heap.new n) (λ y. (y ≡ x) × (length heap.old ≤ len) × (heap.new ≡ heap.old)) }
+    ensures { MatchResult result (λ n. Entered T.before x heap.old len heap.new n) (λ y. (y ≡ x) × (length heap.old ≤ len) × (heap.new ≡ heap.old)) }
 {
     if len >= heap.len() {
         return Err(x);
@@ -32,7 +32,7 @@ pub fn push<T: Precedes>(heap: &mut [T], len: usize, x: T) -> Result<usize, T>
 
 /// The smallest element, which stays. An empty queue gives none.
 pub fn peek<T: Precedes>(heap: &[T], len: usize) -> Option<T>
-    ensures { MatchOption result (Vacant heap.now len) (λ x. First before x heap.now len) }
+    ensures { MatchOption result (Vacant heap.now len) (λ x. First T.before x heap.now len) }
 {
     if 0 < len && len <= heap.len() {
         Some(heap[0])
@@ -43,7 +43,7 @@ pub fn peek<T: Precedes>(heap: &[T], len: usize) -> Option<T>
 
 /// The smallest element, which leaves, and how many stay. An empty queue gives none.
 pub fn pop<T: Precedes>(heap: &mut [T], len: usize) -> Option<(T, usize)>
-    ensures { MatchOption result (Vacant heap.old len × (heap.new ≡ heap.old)) (λ p. First before p.0 heap.old len × Left before p.0 heap.old len heap.new p.1) }
+    ensures { MatchOption result (Vacant heap.old len × (heap.new ≡ heap.old)) (λ p. First T.before p.0 heap.old len × Left T.before p.0 heap.old len heap.new p.1) }
 {
     if len == 0 || len > heap.len() {
         return None;
@@ -55,7 +55,7 @@ pub fn pop<T: Precedes>(heap: &mut [T], len: usize) -> Option<(T, usize)>
 /// Puts `x` in the place of the smallest element, which leaves: a `pop` and a `push` in one step. An empty queue hands
 /// `x` back.
 pub fn replace_first<T: Precedes>(heap: &mut [T], len: usize, x: T) -> Result<T, T>
-    ensures { MatchResult result (λ y. First before y heap.old len × Replaced before x y heap.old len heap.new) (λ y. (y ≡ x) × Vacant heap.old len × (heap.new ≡ heap.old)) }
+    ensures { MatchResult result (λ y. First T.before y heap.old len × Replaced T.before x y heap.old len heap.new) (λ y. (y ≡ x) × Vacant heap.old len × (heap.new ≡ heap.old)) }
 {
     if len == 0 || len > heap.len() {
         return Err(x);
@@ -68,7 +68,7 @@ pub fn replace_first<T: Precedes>(heap: &mut [T], len: usize, x: T) -> Result<T,
 
 /// Takes `x` out, wherever it is, and says how many stay. A queue that does not hold it gives none.
 pub fn remove<T: Precedes>(heap: &mut [T], len: usize, x: T) -> Option<usize>
-    ensures { MatchOption result (Absent x heap.old len × (heap.new ≡ heap.old)) (λ n. Left before x heap.old len heap.new n) }
+    ensures { MatchOption result (Absent x heap.old len × (heap.new ≡ heap.old)) (λ n. Left T.before x heap.old len heap.new n) }
 {
     if len > heap.len() {
         return None;
@@ -102,7 +102,7 @@ fn position<T: Precedes>(heap: &[T], len: usize, x: T) -> Option<usize>
 fn remove_at<T: Precedes>(heap: &mut [T], len: usize, at: usize) -> T
     requires { (at < len) × (len ≤ length heap.old) }
     ensures value { result ≡ slice_index_or heap.old at result }
-    ensures left { Left before result heap.old len heap.new (len - 1) }
+    ensures left { Left T.before result heap.old len heap.new (len - 1) }
 {
     take_out(&mut heap[0..len], at)
 }

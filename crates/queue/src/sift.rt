@@ -10,7 +10,7 @@ use crate::order::Precedes;
 /// Whether the element at `i` comes before the one at `j`.
 fn earlier<T: Precedes>(s: &[T], i: usize, j: usize) -> bool
     requires { (i < length s.now) × (j < length s.now) }
-    ensures { (d : T) → before (slice_index_or s.now i d) (slice_index_or s.now j d) ≡ result }
+    ensures { (d : T) → T.before (slice_index_or s.now i d) (slice_index_or s.now j d) ≡ result }
 {
     s[i].is_before(&s[j])
 }
@@ -19,7 +19,7 @@ fn earlier<T: Precedes>(s: &[T], i: usize, j: usize) -> bool
 fn rise<T: Precedes>(s: &mut [T], start: usize) -> usize
     requires { start < length s.old }
     ensures shuffled { IsPermutation s.old s.new }
-    ensures hole { Gap before s.old start → Hole before s.new result }
+    ensures hole { Gap T.before s.old start → Hole T.before s.new result }
 {
     let mut at = start;
     while 0 < at && earlier(s, at, (at - 1) / 2) {
@@ -33,7 +33,7 @@ fn rise<T: Precedes>(s: &mut [T], start: usize) -> usize
 fn first_child<T: Precedes>(s: &[T], at: usize) -> usize
     requires { at * 2 + 1 < length s.now }
     ensures bound { (at * 2 + 1 ≤ result) × (result ≤ at * 2 + 2) × (result < length s.now) }
-    ensures foremost { Foremost before s.now at result }
+    ensures foremost { Foremost T.before s.now at result }
 {
     let left = at * 2 + 1;
     if left + 1 == s.len() {
@@ -46,7 +46,7 @@ fn first_child<T: Precedes>(s: &[T], at: usize) -> usize
 /// Moves the element at `start` down past its children that come before it.
 fn sink<T: Precedes>(s: &mut [T], start: usize)
     ensures shuffled { IsPermutation s.old s.new }
-    ensures heaped { Hole before s.old start → Heaped before s.new }
+    ensures heaped { Hole T.before s.old start → Heaped T.before s.new }
 {
     let mut at = start;
     while at < s.len() / 2 {
@@ -62,7 +62,7 @@ fn sink<T: Precedes>(s: &mut [T], start: usize)
 /// Puts the element at `start` in its place.
 pub(crate) fn settle<T: Precedes>(s: &mut [T], start: usize)
     ensures shuffled { IsPermutation s.old s.new }
-    ensures heaped { Gap before s.old start → Heaped before s.new }
+    ensures heaped { Gap T.before s.old start → Heaped T.before s.new }
 {
     if start < s.len() {
         let at = rise(s, start);
@@ -75,7 +75,7 @@ pub(crate) fn take_out<T: Precedes>(s: &mut [T], at: usize) -> T
     requires { at < length s.old }
     ensures value { result ≡ slice_index_or s.old at result }
     ensures shuffled { IsPermutation s.old (result ∷ take (length s.old - 1) s.new) }
-    ensures heaped { Heaped before s.old → Heaped before (take (length s.old - 1) s.new) }
+    ensures heaped { Heaped T.before s.old → Heaped T.before (take (length s.old - 1) s.new) }
 {
     let last = s.len() - 1;
     let x = s[at];

@@ -6,8 +6,8 @@ use Rattle.queue.specs.Queue.{Heaped}
 use Rattle.queue.proofs.Held.{part_less, rest_back, within_front}
 use Rattle.queue.proofs.remove_at.Goals as goal
 
-pub take-out-requires : goal.take-out-requires
-take-out-requires g c =
+pub take_out-requires : goal.take_out-requires
+take_out-requires g c =
     let n = c.args.len in
     omega (arith, length-take-le (n - 0) c.args.heap.now (omega arith))
 
@@ -17,7 +17,7 @@ returns g c =
     let n = c.args.len in
     let same : n - 0 ≡ n = omega arith in
     let fits : n - 0 ≤ length xs = omega arith in
-    let out = c.take-out in
+    let out = c.take_out in
     let x = out.result in
     let zs = out.new.s in
     let told = out.ensures in

@@ -7,7 +7,7 @@ use Rattle.queue.proofs.sift.sink.Goals as goal
 pub returns-then-not-earlier : goal.returns-then-not-earlier
 returns-then-not-earlier g c =
     let l = c.loop-at in
-    let child = c.first-child-child in
+    let child = c.first_child-child in
     record {
       shuffled = l.invariant.0;
       heaped = λ hole. rests_below g.T.Precedes.before g.met.T.Precedes.linear l.s l.at child.result child.ensures.foremost c.if-not-earlier.ensures (l.invariant.1 hole);
@@ -16,7 +16,7 @@ returns-then-not-earlier g c =
 pub loop-at-preserved : goal.loop-at-preserved
 loop-at-preserved g c =
     let l = c.loop-at in
-    let child = c.first-child-child in
+    let child = c.first_child-child in
     let w = c.swap in
     let told = w.ensures.by_index in
     let long = w.ensures.len in (

@@ -20,6 +20,6 @@ returns g c =
     let back = part_back ys zs _ (n - 0) n (omega arith) (omega arith) told.shuffled in
     record {
       value = c.index-s-at.is;
-      shuffled = subst (λ l. IsPermutation xs (x ∷ l)) (sym back) (went xs ys zs (n - 0) x (omega arith) long (c.index-s-at.is ∙ sym (w.by-index.1 x) ∙ ap (λ k. get_or ys k x) same) w.permutation told.shuffled);
-      heaped = λ heap. subst (Heaped g.T.Precedes.before) (sym back) (told.heaped (last_out g.T.Precedes.before g.met.T.Precedes.linear xs ys c.args.at _ inside (omega arith) long (λ k d u v. w.by-index.2 k d u (omega arith)) heap));
+      shuffled = subst (λ l. IsPermutation xs (x ∷ l)) (sym back) (went xs ys zs (n - 0) x (omega arith) long (c.index-s-at.is ∙ sym (w.by_index.1 x) ∙ ap (λ k. get_or ys k x) same) w.permutation told.shuffled);
+      heaped = λ heap. subst (Heaped g.T.Precedes.before) (sym back) (told.heaped (last_out g.T.Precedes.before g.met.T.Precedes.linear xs ys c.args.at _ inside (omega arith) long (λ k d u v. w.by_index.2 k d u (omega arith)) heap));
     }
