@@ -12,28 +12,28 @@ returns-in-Err c =
     let f = stuck_found row_line c.args.at.rest.now c.args.at.place c.in-Err.place c.in-Err.ensures in
     lined_form c.args.line c.args.at.place c.args.at.rest.now (reading (contents c.args.names.now) c.args.draft.now) c.in-Err.place f.0 f.1
 
-pub returns-in-err-limits : goal.returns-in-err-limits
-returns-in-err-limits c =
-    let p = err_from_is_err_and c.from-residual.result c.from-residual.ensures.1 in
+pub returns-in_err-limits : goal.returns-in_err-limits
+returns-in_err-limits c =
+    let p = err_from_is_err_and c.from_residual.result c.from_residual.ensures.1 in
     let m = c.in-Ok.ensures in
-    rw (p.1, p.2) (lined_limits c.args.line c.args.at.place c.args.at.rest.now (reading (contents c.args.names.now) c.args.draft.now) _ _ _ _ _ _ _ (past_found _ _ _ _ _ _ m.moves) m.task _ (sym c.in-err-limits.ensures))
+    rw (p.1, p.2) (lined_limits c.args.line c.args.at.place c.args.at.rest.now (reading (contents c.args.names.now) c.args.draft.now) _ _ _ _ _ _ _ (past_found _ _ _ _ _ _ m.moves) m.task _ (sym c.in_err-limits.ensures))
 
-pub returns-then-name-taken : goal.returns-then-name-taken
-returns-then-name-taken c =
+pub returns-then-name_taken : goal.returns-then-name_taken
+returns-then-name_taken c =
     let m = c.in-Ok.ensures in
-    lined_name c.args.line c.args.at.place c.args.at.rest.now (reading (contents c.args.names.now) c.args.draft.now) _ _ _ _ _ _ _ (past_found _ _ _ _ _ _ m.moves) m.task (sym c.in-ok-limits.ensures) (sym c.if-name-taken.ensures)
+    lined_name c.args.line c.args.at.place c.args.at.rest.now (reading (contents c.args.names.now) c.args.draft.now) _ _ _ _ _ _ _ (past_found _ _ _ _ _ _ m.moves) m.task (sym c.in_ok-limits.ensures) (sym c.if-name_taken.ensures)
 
 pub returns-then-not-add : goal.returns-then-not-add
 returns-then-not-add c =
     let m = c.in-Ok.ensures in
-    lined_common c.args.line c.args.at.place c.args.at.rest.now (reading (contents c.args.names.now) c.args.draft.now) _ _ _ _ _ _ _ (past_found _ _ _ _ _ _ m.moves) m.task (sym c.in-ok-limits.ensures) (sym c.if-name-taken.ensures) c.if-not-add.ensures.past
+    lined_common c.args.line c.args.at.place c.args.at.rest.now (reading (contents c.args.names.now) c.args.draft.now) _ _ _ _ _ _ _ (past_found _ _ _ _ _ _ m.moves) m.task (sym c.in_ok-limits.ensures) (sym c.if-name_taken.ensures) c.if-not-add.ensures.past
 
 pub returns : goal.returns
 returns c =
     let m = c.in-Ok.ensures in
     let f = past_found _ _ _ _ _ _ m.moves in
     let added = c.if-not-add.ensures in
-    let yes = lined_yes c.args.line c.args.at.place c.args.at.rest.now (reading (contents c.args.names.now) c.args.draft.now) _ _ _ _ _ _ _ (past_found _ _ _ _ _ _ m.moves) m.task (sym c.in-ok-limits.ensures) (sym c.if-name-taken.ensures) added.within in
+    let yes = lined_yes c.args.line c.args.at.place c.args.at.rest.now (reading (contents c.args.names.now) c.args.draft.now) _ _ _ _ _ _ _ (past_found _ _ _ _ _ _ m.moves) m.task (sym c.in_ok-limits.ensures) (sym c.if-name_taken.ensures) added.within in
     record {
       yes = yes ∙ ap Ok (same_parts _ _ _ _ _ added.tasks added.common);
       place = f.place;

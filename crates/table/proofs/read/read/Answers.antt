@@ -18,7 +18,7 @@ pub returns-in-Err : goal.returns-in-Err
 returns-in-Err c =
     let f = stuck_found count_line c.args.text.now 0 c.in-Err.place c.in-Err.ensures in
     judged c.args.text.now (Err (LineForm (at 1 c.in-Err.place)))
-    (first_form c.args.text.now c.if-text-lt1.false c.if-text-gt-MOST-BYTES.false c.in-Err.place f.0 (sym (zero-add _) ∙ f.1))
+    (first_form c.args.text.now c.if-text-lt1.false c.if-text-gt-MOST_BYTES.false c.in-Err.place f.0 (sym (zero-add _) ∙ f.1))
 
 pub returns-then-count-lt1 : goal.returns-then-count-lt1
 returns-then-count-lt1 c =
@@ -26,8 +26,8 @@ returns-then-count-lt1 c =
     let found = past_found _ _ _ _ _ _ v.2 in
     judged c.args.text.now (Err (RowCount (at 1 0)))
     (⊎_elim
-    (λ h. count_low c.args.text.now c.if-text-lt1.false c.if-text-gt-MOST-BYTES.false _ _ _ _ v.1 found h)
-    (λ h. count_high c.args.text.now c.if-text-lt1.false c.if-text-gt-MOST-BYTES.false _ _ _ _ v.1 found h.1)
+    (λ h. count_low c.args.text.now c.if-text-lt1.false c.if-text-gt-MOST_BYTES.false _ _ _ _ v.1 found h)
+    (λ h. count_high c.args.text.now c.if-text-lt1.false c.if-text-gt-MOST_BYTES.false _ _ _ _ v.1 found h.1)
     c.then-count-lt1.either)
 
 pub loop-row-init : goal.loop-row-init
@@ -35,25 +35,25 @@ loop-row-init c =
     let v = c.in-Ok.ensures in
     let fresh = c.new-draft.ensures in
     let bs = c.args.text.now in (
-      count_start bs c.if-text-lt1.false c.if-text-gt-MOST-BYTES.false _ _ _ _ v.1 (past_found _ _ _ _ _ _ v.2) c.if-count-lt1.false c.if-count-gt-MOST-COUNT.false _ (same_parts [] [] _ 1 _ fresh.tasks fresh.common),
+      count_start bs c.if-text-lt1.false c.if-text-gt-MOST_BYTES.false _ _ _ _ v.1 (past_found _ _ _ _ _ _ v.2) c.if-count-lt1.false c.if-count-gt-MOST_COUNT.false _ (same_parts [] [] _ 1 _ fresh.tasks fresh.common),
       ap length fresh.tasks,
       refl,
-      room_after bs _ _ _ c.if-text-gt-MOST-BYTES.false v.2,
+      room_after bs _ _ _ c.if-text-gt-MOST_BYTES.false v.2,
     )
 
-pub returns-in-err-name : goal.returns-in-err-name
-returns-in-err-name c =
-    let p = err_from_is_err_and c.from-residual.result c.from-residual.ensures.1 in
-    rw (p.1, p.2) (judged c.args.text.now (Err c.in-err-name.field-0.0) (row_refused c.args.text.now c.in-Ok.line.0 c.loop-row.row c.loop-row.at c.loop-row.names c.loop-row.draft c.loop-row.invariant.0 c.loop-row-test.true c.in-err-name.field-0.0 c.in-err-name.ensures))
+pub returns-in_err-name : goal.returns-in_err-name
+returns-in_err-name c =
+    let p = err_from_is_err_and c.from_residual.result c.from_residual.ensures.1 in
+    rw (p.1, p.2) (judged c.args.text.now (Err c.in_err-name.field-0.0) (row_refused c.args.text.now c.in-Ok.line.0 c.loop-row.row c.loop-row.at c.loop-row.names c.loop-row.draft c.loop-row.invariant.0 c.loop-row-test.true c.in_err-name.field-0.0 c.in_err-name.ensures))
 
 pub loop-row-preserved : goal.loop-row-preserved
 loop-row-preserved c =
     let i = c.loop-row.row in
-    let t = c.in-ok-name.ensures in
-    let room = slot_free c.in-Ok.line.0 i c.loop-row.names c.loop-row-test.true c.if-count-gt-MOST-COUNT.false c.loop-row.invariant.2 in (
-      row_taken c.args.text.now c.in-Ok.line.0 i c.loop-row.at c.loop-row.names c.loop-row.draft c.loop-row.invariant.0 c.loop-row-test.true room c.in-ok-name.name c.in-ok-name.next c.next-row.new.draft t,
+    let t = c.in_ok-name.ensures in
+    let room = slot_free c.in-Ok.line.0 i c.loop-row.names c.loop-row-test.true c.if-count-gt-MOST_COUNT.false c.loop-row.invariant.2 in (
+      row_taken c.args.text.now c.in-Ok.line.0 i c.loop-row.at c.loop-row.names c.loop-row.draft c.loop-row.invariant.0 c.loop-row-test.true room c.in_ok-name.name c.in_ok-name.next c.next_row.new.draft t,
       t.more ∙ ap (λ n. n + 1) c.loop-row.invariant.1,
-      length-set c.loop-row.names i c.in-ok-name.name ∙ c.loop-row.invariant.2,
+      length-set c.loop-row.names i c.in_ok-name.name ∙ c.loop-row.invariant.2,
       subst (λ n. n ≤ 8192) (sym t.room) c.loop-row.invariant.3,
     )
 

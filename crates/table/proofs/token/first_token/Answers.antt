@@ -12,9 +12,9 @@ returns-in-49-to-57 c =
     let bs = c.args.text.now in
     let some : 0 < length bs = grind (arith, nat_tests) in
     let is : lead (get_or bs 0 0) ≡ true = grind (arith, nat_tests) in
-    let n = c.number-size-count.result.0 in
-    let size : n ≡ word_size a_number bs = c.number-size-count.ensures.size ∙ number_stretch bs in
-    let value : c.number-size-count.result.1 ≡ decimal (take (n - 0) bs) = rw sub-zero c.number-size-count.ensures.value in
+    let n = c.number_size-count.result.0 in
+    let size : n ≡ word_size a_number bs = c.number_size-count.ensures.size ∙ number_stretch bs in
+    let value : c.number_size-count.result.1 ≡ decimal (take (n - 0) bs) = rw sub-zero c.number_size-count.ensures.value in
     record {
       value = ap (a_numeral (take (n - 0) bs)) value ∙ ap (λ m. numbered (take m bs)) (sub-zero n ∙ size) ∙ sym (lexeme_number bs some is);
       place = refl;
@@ -25,5 +25,5 @@ returns-in-97-to-122 c =
     let bs = c.args.text.now in
     let some : 0 < length bs = grind (arith, nat_tests) in
     let is : letter (get_or bs 0 0) ≡ true = grind (arith, nat_tests) in
-    let size = sub-zero c.name-size.result ∙ c.name-size.ensures.value ∙ name_stretch bs in
+    let size = sub-zero c.name_size.result ∙ c.name_size.ensures.value ∙ name_stretch bs in
     record { value = ap (λ n. a_word (take n bs)) size ∙ sym (lexeme_word bs some is); place = refl }

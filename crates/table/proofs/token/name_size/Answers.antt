@@ -8,7 +8,7 @@ loop-rest-preserved c =
     let rest = c.loop-rest.rest.now in
     let some : 0 < length rest = omega (arith, ltb-false) in
     let e = length_after rest some in
-    (omega (arith, c.loop-rest.invariant.0), stretch_more is_name_byte c.loop-rest.count rest some (sym c.if-not-name-byte.ensures) ∙ c.loop-rest.invariant.1)
+    (omega (arith, c.loop-rest.invariant.0), stretch_more is_name_byte c.loop-rest.count rest some (sym c.if-not-name_byte.ensures) ∙ c.loop-rest.invariant.1)
 
 pub returns : goal.returns
 returns c =

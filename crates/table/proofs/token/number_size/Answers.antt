@@ -3,13 +3,13 @@ use Rattle.table.specs.Bytes.{is_number_byte}
 use Rattle.table.proofs.Loops.{after, length_after, stretch_more, stretch_none, stretch_ends, counts_more, counts_end, pow_more}
 use Rattle.table.proofs.token.number_size.Goals as goal
 
-pub returns-then-not-number-byte : goal.returns-then-not-number-byte
-returns-then-not-number-byte c =
+pub returns-then-not-number_byte : goal.returns-then-not-number_byte
+returns-then-not-number_byte c =
     let rest = c.loop-rest.rest.now in
     let some : 0 < length rest = omega (arith, ltb-false) in
     record {
       within = omega (arith, c.loop-rest.invariant.0);
-      size = stretch_ends is_number_byte c.loop-rest.count rest some (sym c.if-not-number-byte.ensures) ∙ c.loop-rest.invariant.1;
+      size = stretch_ends is_number_byte c.loop-rest.count rest some (sym c.if-not-number_byte.ensures) ∙ c.loop-rest.invariant.1;
       value = counts_end c.loop-rest.value rest c.loop-rest.count c.args.text.now c.loop-rest.invariant.2;
     }
 
@@ -18,7 +18,7 @@ loop-rest-preserved c =
     let rest = c.loop-rest.rest.now in
     let some : 0 < length rest = omega (arith, ltb-false) in
     let e = length_after rest some in
-    let may = sym c.if-not-number-byte.ensures in (
+    let may = sym c.if-not-number_byte.ensures in (
       omega (arith, c.loop-rest.invariant.0),
       stretch_more is_number_byte c.loop-rest.count rest some may ∙ c.loop-rest.invariant.1,
       counts_more c.loop-rest.value rest c.loop-rest.count c.args.text.now c.from.result some c.from.ensures c.loop-rest.invariant.2,

@@ -13,37 +13,37 @@ after_number = mark 41 ∷ mark 10 ∷ []
 abbrev after_title : List Piece
 after_title = mark 32 ∷ word a_number ∷ after_number
 
-pub returns-in-err-title : goal.returns-in-err-title
-returns-in-err-title c =
-    let p = err_from_is_err_and c.from-residual.result c.from-residual.ensures.1 in
-    rw (p.1, p.2) (stuck_first (exactly (codes "table") ++ after_title) c.in-err-title.ensures)
+pub returns-in_err-title : goal.returns-in_err-title
+returns-in_err-title c =
+    let p = err_from_is_err_and c.from_residual.result c.from_residual.ensures.1 in
+    rw (p.1, p.2) (stuck_first (exactly (codes "table") ++ after_title) c.in_err-title.ensures)
 
-pub returns-in-err-gap : goal.returns-in-err-gap
-returns-in-err-gap c =
-    let p = err_from_is_err_and c.from-residual-in-err-gap.result c.from-residual-in-err-gap.ensures.1 in
-    rw (p.1, p.2) (stuck_then c.in-ok-title.ensures (stuck_first after_title c.in-err-gap.ensures))
+pub returns-in_err-gap : goal.returns-in_err-gap
+returns-in_err-gap c =
+    let p = err_from_is_err_and c.from_residual-in_err-gap.result c.from_residual-in_err-gap.ensures.1 in
+    rw (p.1, p.2) (stuck_then c.in_ok-title.ensures (stuck_first after_title c.in_err-gap.ensures))
 
-pub returns-in-err-digits : goal.returns-in-err-digits
-returns-in-err-digits c =
-    let p = err_from_is_err_and c.from-residual-in-err-digits.result c.from-residual-in-err-digits.ensures.1 in
-    rw (p.1, p.2) (stuck_then c.in-ok-title.ensures (stuck_then c.in-ok-gap.ensures (stuck_first (word a_number ∷ after_number) c.in-err-digits.ensures)))
+pub returns-in_err-digits : goal.returns-in_err-digits
+returns-in_err-digits c =
+    let p = err_from_is_err_and c.from_residual-in_err-digits.result c.from_residual-in_err-digits.ensures.1 in
+    rw (p.1, p.2) (stuck_then c.in_ok-title.ensures (stuck_then c.in_ok-gap.ensures (stuck_first (word a_number ∷ after_number) c.in_err-digits.ensures)))
 
-pub returns-in-err-count : goal.returns-in-err-count
-returns-in-err-count c =
-    let p = err_from_is_err_and c.from-residual-in-err-count.result c.from-residual-in-err-count.ensures.1 in
-    rw (p.1, p.2) (stuck_then c.in-ok-title.ensures (stuck_then c.in-ok-gap.ensures (stuck_then c.in-ok-digits.ensures (stuck_first after_number c.in-err-count.ensures))))
+pub returns-in_err-count : goal.returns-in_err-count
+returns-in_err-count c =
+    let p = err_from_is_err_and c.from_residual-in_err-count.result c.from_residual-in_err-count.ensures.1 in
+    rw (p.1, p.2) (stuck_then c.in_ok-title.ensures (stuck_then c.in_ok-gap.ensures (stuck_then c.in_ok-digits.ensures (stuck_first after_number c.in_err-count.ensures))))
 
-pub returns-in-err-end : goal.returns-in-err-end
-returns-in-err-end c =
-    let p = err_from_is_err_and c.from-residual-in-err-end.result c.from-residual-in-err-end.ensures.1 in
-    rw (p.1, p.2) (stuck_then c.in-ok-title.ensures (stuck_then c.in-ok-gap.ensures (stuck_then c.in-ok-digits.ensures (stuck_then c.in-ok-count.ensures.2 (stuck_first (mark 10 ∷ []) c.in-err-end.ensures)))))
+pub returns-in_err-end : goal.returns-in_err-end
+returns-in_err-end c =
+    let p = err_from_is_err_and c.from_residual-in_err-end.result c.from_residual-in_err-end.ensures.1 in
+    rw (p.1, p.2) (stuck_then c.in_ok-title.ensures (stuck_then c.in_ok-gap.ensures (stuck_then c.in_ok-digits.ensures (stuck_then c.in_ok-count.ensures.2 (stuck_first (mark 10 ∷ []) c.in_err-end.ensures)))))
 
-pub returns-in-err-next : goal.returns-in-err-next
-returns-in-err-next c =
-    let p = err_from_is_err_and c.from-residual-in-err-next.result c.from-residual-in-err-next.ensures.1 in
-    rw (p.1, p.2) (stuck_then c.in-ok-title.ensures (stuck_then c.in-ok-gap.ensures (stuck_then c.in-ok-digits.ensures (stuck_then c.in-ok-count.ensures.2 (stuck_then c.in-ok-end.ensures (c.in-err-next.ensures))))))
+pub returns-in_err-next : goal.returns-in_err-next
+returns-in_err-next c =
+    let p = err_from_is_err_and c.from_residual-in_err-next.result c.from_residual-in_err-next.ensures.1 in
+    rw (p.1, p.2) (stuck_then c.in_ok-title.ensures (stuck_then c.in_ok-gap.ensures (stuck_then c.in_ok-digits.ensures (stuck_then c.in_ok-count.ensures.2 (stuck_then c.in_ok-end.ensures (c.in_err-next.ensures))))))
 
 pub returns : goal.returns
 returns c =
-    let v = c.in-ok-count.ensures in
-    (v.0, v.1, past_join c.in-ok-title.ensures (past_join c.in-ok-gap.ensures (past_join c.in-ok-digits.ensures (past_join c.in-ok-count.ensures.2 (past_join c.in-ok-end.ensures c.in-ok-next.ensures)))), v.3)
+    let v = c.in_ok-count.ensures in
+    (v.0, v.1, past_join c.in_ok-title.ensures (past_join c.in_ok-gap.ensures (past_join c.in_ok-digits.ensures (past_join c.in_ok-count.ensures.2 (past_join c.in_ok-end.ensures c.in_ok-next.ensures)))), v.3)

@@ -13,37 +13,37 @@ after_number = mark 41 ∷ []
 abbrev after_title : List Piece
 after_title = mark 32 ∷ word a_number ∷ mark 41 ∷ []
 
-pub returns-in-err-bracket : goal.returns-in-err-bracket
-returns-in-err-bracket c =
-    let p = err_from_is_err_and c.from-residual.result c.from-residual.ensures.1 in
-    rw (p.1, p.2) (stuck_first (mark 40 ∷ (exactly c.args.title.now ++ after_title)) c.in-err-bracket.ensures)
+pub returns-in_err-bracket : goal.returns-in_err-bracket
+returns-in_err-bracket c =
+    let p = err_from_is_err_and c.from_residual.result c.from_residual.ensures.1 in
+    rw (p.1, p.2) (stuck_first (mark 40 ∷ (exactly c.args.title.now ++ after_title)) c.in_err-bracket.ensures)
 
-pub returns-in-err-named : goal.returns-in-err-named
-returns-in-err-named c =
-    let p = err_from_is_err_and c.from-residual-in-err-named.result c.from-residual-in-err-named.ensures.1 in
-    rw (p.1, p.2) (stuck_then c.in-ok-bracket.ensures (stuck_first (exactly c.args.title.now ++ after_title) c.in-err-named.ensures))
+pub returns-in_err-named : goal.returns-in_err-named
+returns-in_err-named c =
+    let p = err_from_is_err_and c.from_residual-in_err-named.result c.from_residual-in_err-named.ensures.1 in
+    rw (p.1, p.2) (stuck_then c.in_ok-bracket.ensures (stuck_first (exactly c.args.title.now ++ after_title) c.in_err-named.ensures))
 
-pub returns-in-err-gap : goal.returns-in-err-gap
-returns-in-err-gap c =
-    let p = err_from_is_err_and c.from-residual-in-err-gap.result c.from-residual-in-err-gap.ensures.1 in
-    rw (p.1, p.2) (stuck_then c.in-ok-bracket.ensures (stuck_then c.in-ok-named.ensures (stuck_first after_title c.in-err-gap.ensures)))
+pub returns-in_err-gap : goal.returns-in_err-gap
+returns-in_err-gap c =
+    let p = err_from_is_err_and c.from_residual-in_err-gap.result c.from_residual-in_err-gap.ensures.1 in
+    rw (p.1, p.2) (stuck_then c.in_ok-bracket.ensures (stuck_then c.in_ok-named.ensures (stuck_first after_title c.in_err-gap.ensures)))
 
-pub returns-in-err-digits : goal.returns-in-err-digits
-returns-in-err-digits c =
-    let p = err_from_is_err_and c.from-residual-in-err-digits.result c.from-residual-in-err-digits.ensures.1 in
-    rw (p.1, p.2) (stuck_then c.in-ok-bracket.ensures (stuck_then c.in-ok-named.ensures (stuck_then c.in-ok-gap.ensures (stuck_first (word a_number ∷ after_number) c.in-err-digits.ensures))))
+pub returns-in_err-digits : goal.returns-in_err-digits
+returns-in_err-digits c =
+    let p = err_from_is_err_and c.from_residual-in_err-digits.result c.from_residual-in_err-digits.ensures.1 in
+    rw (p.1, p.2) (stuck_then c.in_ok-bracket.ensures (stuck_then c.in_ok-named.ensures (stuck_then c.in_ok-gap.ensures (stuck_first (word a_number ∷ after_number) c.in_err-digits.ensures))))
 
-pub returns-in-err-value : goal.returns-in-err-value
-returns-in-err-value c =
-    let p = err_from_is_err_and c.from-residual-in-err-value.result c.from-residual-in-err-value.ensures.1 in
-    rw (p.1, p.2) (stuck_then c.in-ok-bracket.ensures (stuck_then c.in-ok-named.ensures (stuck_then c.in-ok-gap.ensures (stuck_then c.in-ok-digits.ensures (stuck_first after_number c.in-err-value.ensures)))))
+pub returns-in_err-value : goal.returns-in_err-value
+returns-in_err-value c =
+    let p = err_from_is_err_and c.from_residual-in_err-value.result c.from_residual-in_err-value.ensures.1 in
+    rw (p.1, p.2) (stuck_then c.in_ok-bracket.ensures (stuck_then c.in_ok-named.ensures (stuck_then c.in_ok-gap.ensures (stuck_then c.in_ok-digits.ensures (stuck_first after_number c.in_err-value.ensures)))))
 
-pub returns-in-err-next : goal.returns-in-err-next
-returns-in-err-next c =
-    let p = err_from_is_err_and c.from-residual-in-err-next.result c.from-residual-in-err-next.ensures.1 in
-    rw (p.1, p.2) (stuck_then c.in-ok-bracket.ensures (stuck_then c.in-ok-named.ensures (stuck_then c.in-ok-gap.ensures (stuck_then c.in-ok-digits.ensures (stuck_then c.in-ok-value.ensures.2 (c.in-err-next.ensures))))))
+pub returns-in_err-next : goal.returns-in_err-next
+returns-in_err-next c =
+    let p = err_from_is_err_and c.from_residual-in_err-next.result c.from_residual-in_err-next.ensures.1 in
+    rw (p.1, p.2) (stuck_then c.in_ok-bracket.ensures (stuck_then c.in_ok-named.ensures (stuck_then c.in_ok-gap.ensures (stuck_then c.in_ok-digits.ensures (stuck_then c.in_ok-value.ensures.2 (c.in_err-next.ensures))))))
 
 pub returns : goal.returns
 returns c =
-    let v = c.in-ok-value.ensures in
-    (v.0, v.1, past_join c.in-ok-bracket.ensures (past_join c.in-ok-named.ensures (past_join c.in-ok-gap.ensures (past_join c.in-ok-digits.ensures (past_join c.in-ok-value.ensures.2 c.in-ok-next.ensures)))), v.3)
+    let v = c.in_ok-value.ensures in
+    (v.0, v.1, past_join c.in_ok-bracket.ensures (past_join c.in_ok-named.ensures (past_join c.in_ok-gap.ensures (past_join c.in_ok-digits.ensures (past_join c.in_ok-value.ensures.2 c.in_ok-next.ensures)))), v.3)

@@ -16,5 +16,5 @@ returns-in-Word c =
     let w = word_token bs c.in-Word.word.now c.in-Word.ensures.value in
     past_word_by a_name bs _ _ _ _ w.1 w.0 w.2 c.after.ensures.rest c.after.ensures.place
 
-pub returns-in-default : goal.returns-in-default
-returns-in-default c = stuck_word a_name _ _ (no_word c.first-token.result c.args.self.rest.now c.first-token.ensures.value c.in-default.not-Word)
+pub returns-in_default : goal.returns-in_default
+returns-in_default c = stuck_word a_name _ _ (no_word c.first_token.result c.args.self.rest.now c.first_token.ensures.value c.in_default.not-Word)

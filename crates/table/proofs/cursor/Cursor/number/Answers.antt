@@ -16,5 +16,5 @@ returns-in-Number c =
     let w = number_token bs c.in-Number.digits.now c.in-Number.value c.in-Number.ensures.value in
     (c.in-Number.digits.now, w.3, past_word_by a_number bs _ _ _ _ w.1 w.0 w.2 c.after.ensures.rest c.after.ensures.place, subst (λ v. 1 ≤ v) (sym w.3) (number_some bs c.in-Number.digits.now w.1 w.0))
 
-pub returns-in-default : goal.returns-in-default
-returns-in-default c = stuck_word a_number _ _ (no_number c.first-token.result c.args.self.rest.now c.first-token.ensures.value c.in-default.not-Number)
+pub returns-in_default : goal.returns-in_default
+returns-in_default c = stuck_word a_number _ _ (no_number c.first_token.result c.args.self.rest.now c.first_token.ensures.value c.in_default.not-Number)

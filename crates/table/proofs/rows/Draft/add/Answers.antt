@@ -6,16 +6,16 @@ use Rattle.table.specs.declared.task.Task.{Task}
 use Rattle.table.proofs.Drafting.{stored, whole_push, bounded_push, common_push, least_push}
 use Rattle.table.proofs.rows.Draft.add.Goals as goal
 
-pub invariant-of-self : goal.invariant-of-self
-invariant-of-self c =
+pub invariant_of-self : goal.invariant_of-self
+invariant_of-self c =
     let d = c.args.self.now in
     let t = c.args.task in
     let ts : List Task = take d.count d.list in
     let size : length ts ≡ d.count = length-take-le d.count d.list (omega arith) in
     let room : d.count < 64 = omega (arith, c.requires.room) in
     let fits : d.count < length d.list = omega arith in
-    let m = c.least-multiple-common.result in
-    let is = c.least-multiple-common.ensures.least in
+    let m = c.least_multiple-common.result in
+    let is = c.least_multiple-common.ensures.least in
     let e = sym (stored d.list d.count t fits) in (
       ap (λ n. n) (length-set d.list d.count t) ∙ d.size,
       (
@@ -27,7 +27,7 @@ invariant-of-self c =
             (
               is.some,
               (
-                c.if-common-gt-MOST-COMMON.false,
+                c.if-common-gt-MOST_COMMON.false,
                 (
                   subst (λ xs. Common xs m) e (common_push ts t d.common m d.multiple is),
                   (subst (λ (xs : List Task). (x : ℕ) → Common xs x → m ∣ x) e (least_push ts t d.common m d.least is), tt),
@@ -45,7 +45,7 @@ returns c =
     let size : length (take d.count d.list) ≡ d.count = length-take-le d.count d.list (omega arith) in
     let fits : d.count < length d.list = omega (arith, c.requires.room) in
     record {
-      within = omega (arith, c.least-multiple-common.ensures.value, c.if-common-gt-MOST-COMMON.false);
+      within = omega (arith, c.least_multiple-common.ensures.value, c.if-common-gt-MOST_COMMON.false);
       tasks = stored d.list d.count c.args.task fits;
-      common = c.least-multiple-common.ensures.value;
+      common = c.least_multiple-common.ensures.value;
     }
