@@ -16,28 +16,17 @@ invariant_of-self c =
     let fits : d.count < length d.list = omega arith in
     let m = c.least_multiple-common.result in
     let is = c.least_multiple-common.ensures.least in
-    let e = sym (stored d.list d.count t fits) in (
-      ap (λ n. n) (length-set d.list d.count t) ∙ d.size,
-      (
-        omega arith,
-        (
-          subst AllWhole e (whole_push ts t d.whole c.requires.whole),
-          (
-            subst Bounded e (bounded_push ts t d.bounded c.requires.bounded),
-            (
-              is.some,
-              (
-                c.if-common-gt-MOST_COMMON.false,
-                (
-                  subst (λ xs. Common xs m) e (common_push ts t d.common m d.multiple is),
-                  (subst (λ (xs : List Task). (x : ℕ) → Common xs x → m ∣ x) e (least_push ts t d.common m d.least is), tt),
-                ),
-              ),
-            ),
-          ),
-        ),
-      ),
-    )
+    let e = sym (stored d.list d.count t fits) in
+    record {
+      size = length-set d.list d.count t ∙ d.size;
+      within = omega arith;
+      whole = subst AllWhole e (whole_push ts t d.whole c.requires.whole);
+      bounded = subst Bounded e (bounded_push ts t d.bounded c.requires.bounded);
+      positive = is.some;
+      short = c.if-common-gt-MOST_COMMON.false;
+      multiple = subst (λ xs. Common xs m) e (common_push ts t d.common m d.multiple is);
+      least = subst (λ (xs : List Task). (x : ℕ) → Common xs x → m ∣ x) e (least_push ts t d.common m d.least is);
+    }
 
 pub returns : goal.returns
 returns c =
