@@ -5,4 +5,4 @@ use Rattle.board_c.proofs.answer_over.Goals as goal
 pub returns-in-Ok : goal.returns-in-Ok
 returns-in-Ok g c calls-of =
     let r = c.in-Ok.ensures in
-    inr (inl (refl, r.0, r.1, (c.in-Ok.ramp, record { lasts = r.2; cleared = r.4 }, c.answer-all-in-Ok.ensures)))
+    inr (inl (refl, r.0, r.1, (c.in-Ok.ramp, record { lasts = r.2; cleared = r.4 }, c.answer_all-in-Ok.ensures)))

@@ -11,7 +11,7 @@ loop-call-init g c = acting_none g.T.Alarm c.new-board.result (vec_items c.new-a
 pub loop-call-preserved : goal.loop-call-preserved
 loop-call-preserved g c =
     acting_more g.T.Alarm _ _ _ _ _ _ _ _ c.act.result c.loop-call.invariant c.act.ensures.does
-    (take_more c.args.calls.now c.loop-call.call-index (Release 0) c.loop-call-test.true) c.in-ok-push.ensures.items
+    (take_more c.args.calls.now c.loop-call.call-index (Release 0) c.loop-call-test.true) c.in_ok-push.ensures.items
 
 pub returns : goal.returns
 returns g c =

@@ -8,6 +8,6 @@ returns c =
     let t = c.tick.ensures.does in
     let s = c.release-2.ensures.does in
     record {
-      left = four_left c.cutter-plan-plan.result c.cutter-plan-plan.ensures.tasks c.cutter-plan-plan.ensures.sleeps _ _ n.rules n.fresh _ _ _ _ _ r.entry t.entry s.entry
+      left = four_left c.cutter_plan-plan.result c.cutter_plan-plan.ensures.tasks c.cutter_plan-plan.ensures.sleeps _ _ n.rules n.fresh _ _ _ _ _ r.entry t.entry s.entry
           r.rules t.rules r.made t.made s.made r.step t.step s.step;
     }

@@ -9,14 +9,14 @@ pub loop-row-init : goal.loop-row-init
 unfolding sum_to
 loop-row-init c = (refl, omega arith)
 
-pub overflow-mul-sum : goal.overflow-mul-sum
-overflow-mul-sum c = omega (arith, row_load_le (task_at c.args.tasks.now c.loop-row.row) c.args.period (c.requires.readable.whole c.loop-row.row (omega arith)))
+pub overflow_mul-sum : goal.overflow_mul-sum
+overflow_mul-sum c = omega (arith, row_load_le (task_at c.args.tasks.now c.loop-row.row) c.args.period (c.requires.readable.whole c.loop-row.row (omega arith)))
 
-pub nonzero-div-sum : goal.nonzero-div-sum
-nonzero-div-sum c = omega (arith, c.requires.readable.whole c.loop-row.row (omega arith))
+pub nonzero_div-sum : goal.nonzero_div-sum
+nonzero_div-sum c = omega (arith, c.requires.readable.whole c.loop-row.row (omega arith))
 
-pub overflow-add-sum : goal.overflow-add-sum
-overflow-add-sum c = omega (arith, row_load_le (task_at c.args.tasks.now c.loop-row.row) c.args.period (c.requires.readable.whole c.loop-row.row (omega arith)), c.requires.readable.few)
+pub overflow_add-sum : goal.overflow_add-sum
+overflow_add-sum c = omega (arith, row_load_le (task_at c.args.tasks.now c.loop-row.row) c.args.period (c.requires.readable.whole c.loop-row.row (omega arith)), c.requires.readable.few)
 
 pub loop-row-preserved : goal.loop-row-preserved
 unfolding sum_to

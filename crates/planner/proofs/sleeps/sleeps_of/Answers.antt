@@ -13,8 +13,8 @@ loop-from-init c =
 pub loop-from-preserved : goal.loop-from-preserved
 loop-from-preserved c =
     let l = c.loop-from in
-    let next = c.next-due-until.ensures in
-    let leg = c.in-ok-least.ensures in (
+    let next = c.next_due-until.ensures in
+    let leg = c.in_ok-least.ensures in (
       omega (arith, c.lower.auto.sleeps),
       next.bound.1,
       leg.0,

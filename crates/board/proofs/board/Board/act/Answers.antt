@@ -10,19 +10,19 @@ use Rattle.board.specs.Boards.{Asking}
 use Rattle.board.proofs.Acts.{refuses, ends, reports, releases_awake, releases_asleep, ticks_asleep, ticks_awake, closes, same_rules, not_released, not_closed, not_ticked, not_reported, calms, calmed_by, passing}
 use Rattle.board.proofs.board.Board.act.Goals as goal
 
-pub returns-then-is-over : goal.returns-then-is-over
-returns-then-is-over g c =
+pub returns-then-is_over : goal.returns-then-is_over
+returns-then-is_over g c =
     let b = c.args.self.now in
     record {
-      does = record { entry = refused Tick ClockEnd; made = sym c.in-Tick-Asleep.is-0; told = refl; step = ends (g.T.Alarm.reach b.alarm) (g.T.Alarm.grain b.alarm) b.core (g.T.Alarm.meaning b.alarm) c.if-is-over.ensures; rules = refl; handles = refl };
+      does = record { entry = refused Tick ClockEnd; made = sym c.in-Tick-Asleep.is-0; told = refl; step = ends (g.T.Alarm.reach b.alarm) (g.T.Alarm.grain b.alarm) b.core (g.T.Alarm.meaning b.alarm) c.if-is_over.ensures; rules = refl; handles = refl };
       refused = λ why e. refl;
     }
 
-pub returns-then-is-over-2 : goal.returns-then-is-over-2
-returns-then-is-over-2 g c =
+pub returns-then-is_over-2 : goal.returns-then-is_over-2
+returns-then-is_over-2 g c =
     let b = c.args.self.now in
     record {
-      does = record { entry = refused Tick ClockEnd; made = sym c.in-Tick-Awake.is-0; told = refl; step = ends (g.T.Alarm.reach b.alarm) (g.T.Alarm.grain b.alarm) b.core (g.T.Alarm.meaning b.alarm) c.if-is-over-2.ensures; rules = refl; handles = refl };
+      does = record { entry = refused Tick ClockEnd; made = sym c.in-Tick-Awake.is-0; told = refl; step = ends (g.T.Alarm.reach b.alarm) (g.T.Alarm.grain b.alarm) b.core (g.T.Alarm.meaning b.alarm) c.if-is_over-2.ensures; rules = refl; handles = refl };
       refused = λ why e. refl;
     }
 
@@ -63,22 +63,22 @@ returns-in-Err-open g c =
       refused = λ why q. ap (λ (x : Core). record { core = x; alarm = b.alarm }) e.refused;
     }
 
-pub returns-else-is-over : goal.returns-else-is-over
-returns-else-is-over g c =
+pub returns-else-is_over : goal.returns-else-is_over
+returns-else-is_over g c =
     let b = c.args.self.now in
     let p = c.pass-rang.ensures in
     record {
-      does = record { entry = ticked None c.pass-rang.result; made = sym c.in-Tick-Asleep.is-0; told = refl; step = ticks_asleep (g.T.Alarm.reach b.alarm) (g.T.Alarm.grain b.alarm) b.core (g.T.Alarm.meaning b.alarm) c.pass-rang.result c.doze.new.self (g.T.Alarm.meaning c.pass-rang.new.self) (sym c.in-Tick-Asleep.ensures) c.if-is-over.ensures p.rings p.left c.doze.ensures; rules = same_rules _ _ _ _ _ _ c.doze.ensures.plan p.reach p.grain; handles = (c.pass-rang.new.self, (p.left, p.reach, p.grain, p.passes), passing g.T.Alarm b.core.mode Asleep c.doze.new.self c.pass-rang.new.self c.pass-rang.new.self (sym c.in-Tick-Asleep.ensures) refl) };
+      does = record { entry = ticked None c.pass-rang.result; made = sym c.in-Tick-Asleep.is-0; told = refl; step = ticks_asleep (g.T.Alarm.reach b.alarm) (g.T.Alarm.grain b.alarm) b.core (g.T.Alarm.meaning b.alarm) c.pass-rang.result c.doze.new.self (g.T.Alarm.meaning c.pass-rang.new.self) (sym c.in-Tick-Asleep.ensures) c.if-is_over.ensures p.rings p.left c.doze.ensures; rules = same_rules _ _ _ _ _ _ c.doze.ensures.plan p.reach p.grain; handles = (c.pass-rang.new.self, (p.left, p.reach, p.grain, p.passes), passing g.T.Alarm b.core.mode Asleep c.doze.new.self c.pass-rang.new.self c.pass-rang.new.self (sym c.in-Tick-Asleep.ensures) refl) };
       refused = λ why e. not_ticked _ _ why e;
     }
 
-pub returns-else-is-over-2 : goal.returns-else-is-over-2
-returns-else-is-over-2 g c =
+pub returns-else-is_over-2 : goal.returns-else-is_over-2
+returns-else-is_over-2 g c =
     let b = c.args.self.now in
     let p = c.pass-rang-in-Tick-Awake.ensures in
     let s = c.serve-who.ensures in
     record {
-      does = record { entry = ticked c.serve-who.result c.pass-rang-in-Tick-Awake.result; made = sym c.in-Tick-Awake.is-0; told = refl; step = ticks_awake (g.T.Alarm.reach b.alarm) (g.T.Alarm.grain b.alarm) b.core (g.T.Alarm.meaning b.alarm) c.serve-who.result c.pass-rang-in-Tick-Awake.result c.serve-who.new.self c.calm.new.self.core (g.T.Alarm.meaning c.pass-rang-in-Tick-Awake.new.self) (g.T.Alarm.meaning c.calm.new.self.alarm) (sym c.in-Tick-Awake.ensures) c.if-is-over-2.ensures p.rings p.left s c.calm.ensures.core (calms g.T.Alarm c.serve-who.new.self c.pass-rang-in-Tick-Awake.new.self c.calm.new.self.alarm c.calm.ensures.calmed); rules = c.calm.ensures.rules ∙ same_rules _ _ _ _ _ _ s.plan p.reach p.grain; handles = (c.pass-rang-in-Tick-Awake.new.self, (p.left, p.reach, p.grain, p.passes), passing g.T.Alarm b.core.mode Awake c.calm.new.self.core _ _ (sym c.in-Tick-Awake.ensures) (calmed_by g.T.Alarm c.calm.new.self.core c.serve-who.new.self _ _ c.calm.ensures.core c.calm.ensures.calmed)) };
+      does = record { entry = ticked c.serve-who.result c.pass-rang-in-Tick-Awake.result; made = sym c.in-Tick-Awake.is-0; told = refl; step = ticks_awake (g.T.Alarm.reach b.alarm) (g.T.Alarm.grain b.alarm) b.core (g.T.Alarm.meaning b.alarm) c.serve-who.result c.pass-rang-in-Tick-Awake.result c.serve-who.new.self c.calm.new.self.core (g.T.Alarm.meaning c.pass-rang-in-Tick-Awake.new.self) (g.T.Alarm.meaning c.calm.new.self.alarm) (sym c.in-Tick-Awake.ensures) c.if-is_over-2.ensures p.rings p.left s c.calm.ensures.core (calms g.T.Alarm c.serve-who.new.self c.pass-rang-in-Tick-Awake.new.self c.calm.new.self.alarm c.calm.ensures.calmed); rules = c.calm.ensures.rules ∙ same_rules _ _ _ _ _ _ s.plan p.reach p.grain; handles = (c.pass-rang-in-Tick-Awake.new.self, (p.left, p.reach, p.grain, p.passes), passing g.T.Alarm b.core.mode Awake c.calm.new.self.core _ _ (sym c.in-Tick-Awake.ensures) (calmed_by g.T.Alarm c.calm.new.self.core c.serve-who.new.self _ _ c.calm.ensures.core c.calm.ensures.calmed)) };
       refused = λ why e. not_ticked _ _ why e;
     }
 

@@ -6,17 +6,17 @@ use Rattle.board.specs.Cores.{rows}
 use Rattle.board.proofs.Keeping.{write_past, write_below, last_past, refuses_closed, refuses_unbegun, shuts}
 use Rattle.board.proofs.core.Core.close.Goals as goal
 
-pub returns-then-not-has-begun : goal.returns-then-not-has-begun
-returns-then-not-has-begun c =
+pub returns-then-not-has_begun : goal.returns-then-not-has_begun
+returns-then-not-has_begun c =
     let s = c.args.self.now in
     let l : c.args.row < rows s = omega (arith, c.count.ensures.tasks) in
     record {
-      answer = refuses_unbegun s c.args.row c.in-Some.job l (ap (λ (x : Slot). x.job) (sym c.slot.ensures) ∙ c.in-Some.is) c.if-not-has-begun.ensures;
+      answer = refuses_unbegun s c.args.row c.in-Some.job l (ap (λ (x : Slot). x.job) (sym c.slot.ensures) ∙ c.in-Some.is) c.if-not-has_begun.ensures;
       refused = refl;
     }
 
-pub invariant-of-self : goal.invariant-of-self
-invariant-of-self c =
+pub invariant_of-self : goal.invariant_of-self
+invariant_of-self c =
     let s = c.args.self.now in
     let l : c.args.row < rows s = omega (arith, c.count.ensures.tasks) in
     let past = write_past s c.close.new.self.slots c.args.row _ l c.close.ensures s.now (omega arith) (last_past s c.args.row (closed (slot_at s.jobs.slots c.args.row)) refl) in
@@ -29,12 +29,12 @@ returns-in-None c =
     let l : c.args.row < rows s = omega (arith, c.count.ensures.tasks) in
     record { answer = refuses_closed s c.args.row l (ap (λ (x : Slot). x.job) (sym c.slot.ensures) ∙ c.in-None.is); refused = refl }
 
-pub returns-else-not-has-begun : goal.returns-else-not-has-begun
-returns-else-not-has-begun c =
+pub returns-else-not-has_begun : goal.returns-else-not-has_begun
+returns-else-not-has_begun c =
     let s = c.args.self.now in
     let l : c.args.row < rows s = omega (arith, c.count.ensures.tasks) in
     record {
-      answer = shuts s _ _ c.args.row c.in-Some.job l (ap (λ (x : Slot). x.job) (sym c.slot.ensures) ∙ c.in-Some.is) c.if-not-has-begun.ensures
+      answer = shuts s _ _ c.args.row c.in-Some.job l (ap (λ (x : Slot). x.job) (sym c.slot.ensures) ∙ c.in-Some.is) c.if-not-has_begun.ensures
           refl refl refl refl refl c.close.ensures c.settle.ensures.same c.settle.ensures.settled;
       refused = tt;
     }

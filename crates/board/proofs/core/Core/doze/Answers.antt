@@ -3,7 +3,7 @@ use Rattle.std.proofs.Common.{arith}
 use Rattle.board.proofs.Keeping.{past_more}
 use Rattle.board.proofs.core.Core.doze.Goals as goal
 
-pub invariant-of-self : goal.invariant-of-self
-invariant-of-self c =
+pub invariant_of-self : goal.invariant_of-self
+invariant_of-self c =
     let s = c.args.self.now in
     (omega arith, (omega arith, (omega arith, (past_more s.now s.jobs.slots s.past, (s.listed, tt)))))

@@ -6,8 +6,8 @@ use Rattle.board.proofs.core.Core.feed.Goals as goal
 pub task-task-requires : goal.task-task-requires
 task-task-requires c = foremost_listed c.args.self.now c.args.row c.requires.1
 
-pub invariant-of-self : goal.invariant-of-self
-invariant-of-self c =
+pub invariant_of-self : goal.invariant_of-self
+invariant_of-self c =
     let s = c.args.self.now in
     let f = c.requires.1 in
     let row = c.args.row in

@@ -5,8 +5,8 @@ use Rattle.rules.specs.Views.{slot_at}
 use Rattle.board.proofs.Keeping.{apart_some}
 use Rattle.board.proofs.core.Core.is_apart.Goals as goal
 
-pub overflow-sub-result : goal.overflow-sub-result
-overflow-sub-result c =
+pub overflow_sub-result : goal.overflow_sub-result
+overflow_sub-result c =
     c.args.self.now.past c.args.row c.in-Some.last (ap (λ (s : Slot). s.last) (sym c.slot.ensures) ∙ c.in-Some.is)
 
 pub returns-in-Some : goal.returns-in-Some

@@ -7,4 +7,4 @@ use Rattle.board.proofs.core.Core.is_idle.Goals as goal
 pub returns : goal.returns
 returns c =
     let s = c.args.self.now in
-    idle_or_busy_front (length (planned s.plan)) s.jobs.slots c.is-idle.result s.listed c.is-idle.ensures
+    idle_or_busy_front (length (planned s.plan)) s.jobs.slots c.is_idle.result s.listed c.is_idle.ensures

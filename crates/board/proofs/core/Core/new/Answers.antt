@@ -5,8 +5,8 @@ use Rattle.planner.proofs.Plans.{tasks_count}
 use Rattle.board.proofs.Keeping.{past_fresh, below_fresh, front_fresh}
 use Rattle.board.proofs.core.Core.new.Goals as goal
 
-pub invariant-of-result : goal.invariant-of-result
-invariant-of-result c = (
+pub invariant_of-result : goal.invariant_of-result
+invariant_of-result c = (
   omega arith,
   (omega arith, (omega arith, (past_fresh c.new.result.slots c.new.ensures, (below_fresh _ c.new.result.slots c.new.ensures, tt)))),
 )

@@ -6,17 +6,17 @@ use Rattle.board.specs.Cores.{rows}
 use Rattle.board.proofs.Keeping.{write_past, write_below, refuses_soon, opens}
 use Rattle.board.proofs.core.Core.open.Goals as goal
 
-pub returns-then-not-is-apart : goal.returns-then-not-is-apart
-returns-then-not-is-apart c =
+pub returns-then-not-is_apart : goal.returns-then-not-is_apart
+returns-then-not-is_apart c =
     let s = c.args.self.now in
     let l : c.args.row < rows s = omega (arith, c.count.ensures.tasks) in
     record {
-      answer = refuses_soon s c.args.row c.task-task.result.gap l (ap (λ (x : Task). x.gap) c.task-task.ensures) c.if-not-is-apart.ensures;
+      answer = refuses_soon s c.args.row c.task-task.result.gap l (ap (λ (x : Task). x.gap) c.task-task.ensures) c.if-not-is_apart.ensures;
       refused = refl;
     }
 
-pub invariant-of-self : goal.invariant-of-self
-invariant-of-self c =
+pub invariant_of-self : goal.invariant_of-self
+invariant_of-self c =
     let s = c.args.self.now in
     let l : c.args.row < rows s = omega (arith, c.count.ensures.tasks) in
     let past = write_past s c.open.new.self.slots c.args.row _ l c.open.ensures s.now (omega arith) (λ t e. let q : s.now ≡ t = some_same e in omega arith) in
@@ -28,7 +28,7 @@ returns c =
     let s = c.args.self.now in
     let l : c.args.row < rows s = omega (arith, c.count.ensures.tasks) in
     record {
-      answer = opens s _ c.args.row c.sleep-sleep.result c.task-task.result l c.task-task.ensures c.if-not-is-apart.ensures
+      answer = opens s _ c.args.row c.sleep-sleep.result c.task-task.result l c.task-task.ensures c.if-not-is_apart.ensures
           c.sleep-sleep.ensures refl refl refl refl refl c.open.ensures;
       refused = tt;
     }

@@ -4,8 +4,8 @@ use Rattle.board.proofs.Keeping.{past_more, serves_by, serves_none}
 use Rattle.board.proofs.core.Core.serve.Goals as goal
 use Rattle.board.proofs.core.Core.serve.Goals.{in-Some, in-None}
 
-pub invariant-of-self : goal.invariant-of-self
-invariant-of-self c =
+pub invariant_of-self : goal.invariant_of-self
+invariant_of-self c =
     let s = c.args.self.now in
     (omega arith, (omega arith, (omega arith, (past_more s.now s.jobs.slots s.past, (s.listed, tt)))))
 

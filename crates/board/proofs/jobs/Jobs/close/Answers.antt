@@ -13,8 +13,8 @@ unreachable-requires-in-None c =
       | inr gone ↦ gone (open_held s.slots (take s.held s.turns) c.args.row c.in-Some.job s.queued c.in-Some.is)
     ]
 
-pub invariant-of-self : goal.invariant-of-self
-invariant-of-self c =
+pub invariant_of-self : goal.invariant_of-self
+invariant_of-self c =
     let s = c.args.self.now in
     let e = c.in-Some-remove.ensures in
     let l : c.args.row < length s.slots = omega (arith, c.requires.0) in

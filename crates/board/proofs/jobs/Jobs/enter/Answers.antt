@@ -16,8 +16,8 @@ unreachable-requires c =
       place_left s.slots (take s.held s.turns) c.args.row s.queued l c.requires.1,
     )
 
-pub invariant-of-self : goal.invariant-of-self
-invariant-of-self c =
+pub invariant_of-self : goal.invariant_of-self
+invariant_of-self c =
     let s = c.args.self.now in
     let e = c.in-Ok.ensures in
     let l : c.args.row < length s.slots = omega (arith, c.requires.0) in

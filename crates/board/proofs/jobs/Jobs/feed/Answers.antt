@@ -5,8 +5,8 @@ use Rattle.rules.specs.Views.{slot_at}
 use Rattle.board.proofs.Queueing.{queued_kept}
 use Rattle.board.proofs.jobs.Jobs.feed.Goals as goal
 
-pub invariant-of-self : goal.invariant-of-self
-invariant-of-self c =
+pub invariant_of-self : goal.invariant_of-self
+invariant_of-self c =
     let s = c.args.self.now in
     let l : c.args.row < length s.slots = omega (arith, c.requires.0) in (
       length-set s.slots c.args.row _ ∙ s.size,

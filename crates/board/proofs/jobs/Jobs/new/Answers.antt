@@ -3,5 +3,5 @@ use Rattle.std.proofs.Common.{refl, arith}
 use Rattle.board.proofs.Queueing.{queued_fresh}
 use Rattle.board.proofs.jobs.Jobs.new.Goals as goal
 
-pub invariant-of-result : goal.invariant-of-result
-invariant-of-result c = (refl, (refl, (omega arith, ((λ k d l. absurd (omega arith)), (queued_fresh, tt)))))
+pub invariant_of-result : goal.invariant_of-result
+invariant_of-result c = (refl, (refl, (omega arith, ((λ k d l. absurd (omega arith)), (queued_fresh, tt)))))

@@ -4,7 +4,7 @@ use Rattle.std.proofs.lemmas.List.{set-set}
 use Rattle.rules.specs.Views.{opened}
 use Rattle.board.specs.declared.jobs.Jobs.{Jobs}
 use Rattle.board.proofs.jobs.Jobs.open.Goals as goal
-use Rattle.board.proofs.jobs.Jobs.open.Goals.{in-Some, in-default}
+use Rattle.board.proofs.jobs.Jobs.open.Goals.{in-Some, in_default}
 
 pub returns : goal.returns
 returns c =
@@ -14,5 +14,5 @@ returns c =
       | in-Some w ↦
           ap (λ (s : Jobs). set s.slots c.args.row new) w.self-is
           ∙ (ap (λ slots. set slots c.args.row new) w.close.ensures ∙ set-set c.args.self.now.slots c.args.row _ new)
-      | in-default w ↦ ap (λ (s : Jobs). set s.slots c.args.row new) w.self-is
+      | in_default w ↦ ap (λ (s : Jobs). set s.slots c.args.row new) w.self-is
     ])

@@ -16,15 +16,15 @@ windows_of : (rows tasks : List Task) (common h : ℕ) → tasks ≡ rows → h 
 windows_of rows tasks common h e eh whole least =
     subst (Windows rows) eh (windows rows h (subst AllWhole e whole) least.common least.some)
 
-pub sleeps-of-requires : goal.sleeps-of-requires
-sleeps-of-requires c =
+pub sleeps_of-requires : goal.sleeps_of-requires
+sleeps_of-requires c =
     let told = c.tasks-tasks.ensures in
     let common = c.common-common in
     record {
       readable = record { some = told.bound.0; few = told.bound.1; whole = told.whole; bounded = told.bounded };
       bound = (common.ensures.least.some, common.ensures.bound);
       common = subst (λ rows. Common rows common.result) (sym told.value) common.ensures.least.common;
-      load = omega (arith, c.load-of-load.ensures);
+      load = omega (arith, c.load_of-load.ensures);
     }
 
 pub returns-then-load-common : goal.returns-then-load-common
@@ -33,8 +33,8 @@ returns-then-load-common c =
     let told = c.tasks-tasks.ensures in
     let common = c.common-common in
     let tasks = c.tasks-tasks.result.now in
-    let l : c.load-of-load.result ≡ load (rows_of t) (common_of t) =
-    c.load-of-load.ensures ∙ ap (λ rows. load rows common.result) told.value ∙ ap (load (rows_of t)) common.ensures.value in
+    let l : c.load_of-load.result ≡ load (rows_of t) (common_of t) =
+    c.load_of-load.ensures ∙ ap (λ rows. load rows common.result) told.value ∙ ap (load (rows_of t)) common.ensures.value in
     record {
       answered = inl (omega arith, ap Overload l);
       windows = windows_of (rows_of t) tasks (common_of t) common.result told.value common.ensures.value told.whole common.ensures.least;
@@ -46,8 +46,8 @@ returns-in-Err c =
     let told = c.tasks-tasks.ensures in
     let common = c.common-common in
     let tasks = c.tasks-tasks.result.now in
-    let l : c.load-of-load.result ≡ load (rows_of t) (common_of t) =
-    c.load-of-load.ensures ∙ ap (λ rows. load rows common.result) told.value ∙ ap (load (rows_of t)) common.ensures.value in
+    let l : c.load_of-load.result ≡ load (rows_of t) (common_of t) =
+    c.load_of-load.ensures ∙ ap (λ rows. load rows common.result) told.value ∙ ap (load (rows_of t)) common.ensures.value in
     let small : load (rows_of t) (common_of t) ≤ common_of t = omega arith in
     let first : FirstFailure (rows_of t) 1 c.in-Err.window = subst (λ rows. FirstFailure rows 1 c.in-Err.window) told.value c.in-Err.ensures in
     let least : LeastCommon (rows_of t) (common_of t) = subst (LeastCommon (rows_of t)) common.ensures.value common.ensures.least in
@@ -56,8 +56,8 @@ returns-in-Err c =
       windows = windows (rows_of t) (common_of t) (subst AllWhole told.value told.whole) least.common least.some;
     }
 
-pub invariant-of-result : goal.invariant-of-result
-invariant-of-result c =
+pub invariant_of-result : goal.invariant_of-result
+invariant_of-result c =
     let told = c.tasks-tasks.ensures in
     let common = c.common-common in
     let h = common.result in
@@ -84,7 +84,7 @@ invariant-of-result c =
                     (
                       λ x d. common.ensures.least.least x (subst (λ rows. Common rows x) (sym back ∙ told.value) d),
                       (
-                        subst (λ rows. Loads rows h c.load-of-load.result) back c.load-of-load.ensures,
+                        subst (λ rows. Loads rows h c.load_of-load.result) back c.load_of-load.ensures,
                         (
                           omega arith,
                           (

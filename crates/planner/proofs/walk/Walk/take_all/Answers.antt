@@ -12,14 +12,14 @@ bounds-tasks-first c =
     let l = c.loop-first in
     omega (arith, (first_waits c.args.tasks.now l.self.points c.args.at l.self.total l.first c.requires.readable.some l.invariant.0 l.invariant.1).inside)
 
-pub overflow-add-next : goal.overflow-add-next
-overflow-add-next c =
+pub overflow_add-next : goal.overflow_add-next
+overflow_add-next c =
     let l = c.loop-first in
     let w = first_waits c.args.tasks.now l.self.points c.args.at l.self.total l.first c.requires.readable.some l.invariant.0 l.invariant.1 in
     omega (arith, c.requires.readable.bounded l.first.row w.inside)
 
-pub overflow-add-self : goal.overflow-add-self
-overflow-add-self c =
+pub overflow_add-self : goal.overflow_add-self
+overflow_add-self c =
     let l = c.loop-first in
     let tasks = c.args.tasks.now in
     let n = length tasks in
@@ -32,13 +32,13 @@ overflow-add-self c =
 pub loop-first-smaller : goal.loop-first-smaller
 loop-first-smaller c =
     let l = c.loop-first in
-    (taken c.args.tasks.now l.self.points c.replace-first.new.heap c.args.at l.self.total l.first _
+    (taken c.args.tasks.now l.self.points c.replace_first.new.heap c.args.at l.self.total l.first _
     c.requires.readable.some c.requires.readable.whole l.invariant.0 l.invariant.1 c.loop-first-test.true c.in-Ok.ensures).less
 
 pub loop-first-preserved : goal.loop-first-preserved
 loop-first-preserved c =
     let l = c.loop-first in (
-      (taken c.args.tasks.now l.self.points c.replace-first.new.heap c.args.at l.self.total l.first _
+      (taken c.args.tasks.now l.self.points c.replace_first.new.heap c.args.at l.self.total l.first _
           c.requires.readable.some c.requires.readable.whole l.invariant.0 l.invariant.1 c.loop-first-test.true c.in-Ok.ensures).stands,
       c.first-first-in-loop-first.ensures.value,
       c.first-first-in-loop-first.ensures.least,
