@@ -2,41 +2,23 @@
 use Rattle.std.proofs.Common.{refl, arith}
 use native.Mathlib.Nat.{one-dvd}
 use Rattle.planner.specs.Demand.{need, load, sum_to}
-use Rattle.planner.proofs.plan.Plan.empty.Goals as needed
+use Rattle.planner.proofs.plan.Plan.empty.Goals as goal
 
-pub ghost_result : needed.ghost-result
+pub invariant_of-result : goal.invariant_of-result
 unfolding need load sum_to
-ghost_result c = (
-  refl,
-  (
-    refl,
-    (
-      omega arith,
-      (
-        λ row l. absurd (omega arith),
-        (
-          λ row l. absurd (omega arith),
-          (
-            omega arith,
-            (
-              omega arith,
-              (
-                λ row l. absurd (omega arith),
-                (
-                  λ x d. one-dvd x,
-                  (
-                    refl,
-                    (
-                      omega arith,
-                      (λ t l. omega arith, (λ row t l. absurd (omega arith), (λ row l. absurd (omega arith), tt))),
-                    ),
-                  ),
-                ),
-              ),
-            ),
-          ),
-        ),
-      ),
-    ),
-  ),
-)
+invariant_of-result c = record {
+  size = refl;
+  sizes = refl;
+  within = omega arith;
+  whole = λ row l. absurd (omega arith);
+  bounded = λ row l. absurd (omega arith);
+  some = omega arith;
+  short = omega arith;
+  multiple = λ row l. absurd (omega arith);
+  least = λ x d. one-dvd x;
+  loads = refl;
+  room = omega arith;
+  accepted = λ t l. omega arith;
+  rested = λ row t l. absurd (omega arith);
+  tight = λ row l. absurd (omega arith);
+}

@@ -65,49 +65,23 @@ invariant_of-result c =
     let sleeps = c.in-Ok.sleeps in
     let found = c.in-Ok.ensures in
     let size : length sleeps ≡ 64 = search rules in
-    let back = sym c.copied-list.ensures.value in (
-      c.copied-list.ensures.size,
-      (
-        size,
-        (
-          told.bound.1,
-          (
-            subst AllWhole back told.whole,
-            (
-              subst Bounded back told.bounded,
-              (
-                common.ensures.least.some,
-                (
-                  common.ensures.bound,
-                  (
-                    subst (λ rows. Common rows h) (sym told.value ∙ back) common.ensures.least.common,
-                    (
-                      λ x d. common.ensures.least.least x (subst (λ rows. Common rows x) (sym back ∙ told.value) d),
-                      (
-                        subst (λ rows. Loads rows h c.load_of-load.result) back c.load_of-load.ensures,
-                        (
-                          omega arith,
-                          (
-                            subst Accepted back found.0,
-                            (
-                              subst (λ rows. Rested rows (take (length tasks) sleeps)) back (rested_front tasks sleeps found.1),
-                              (
-                                subst (λ rows. Tight rows h (take (length tasks) sleeps)) back (tight_front tasks h sleeps found.2),
-                                tt,
-                              ),
-                            ),
-                          ),
-                        ),
-                      ),
-                    ),
-                  ),
-                ),
-              ),
-            ),
-          ),
-        ),
-      ),
-    )
+    let back = sym c.copied-list.ensures.value in
+    record {
+      size = c.copied-list.ensures.size;
+      sizes = size;
+      within = told.bound.1;
+      whole = subst AllWhole back told.whole;
+      bounded = subst Bounded back told.bounded;
+      some = common.ensures.least.some;
+      short = common.ensures.bound;
+      multiple = subst (λ rows. Common rows h) (sym told.value ∙ back) common.ensures.least.common;
+      least = λ x d. common.ensures.least.least x (subst (λ rows. Common rows x) (sym back ∙ told.value) d);
+      loads = subst (λ rows. Loads rows h c.load_of-load.result) back c.load_of-load.ensures;
+      room = omega arith;
+      accepted = subst Accepted back found.0;
+      rested = subst (λ rows. Rested rows (take (length tasks) sleeps)) back (rested_front tasks sleeps found.1);
+      tight = subst (λ rows. Tight rows h (take (length tasks) sleeps)) back (tight_front tasks h sleeps found.2);
+    }
 
 pub returns-in-Ok : goal.returns-in-Ok
 returns-in-Ok c =
