@@ -1,5 +1,5 @@
 -- A page is written part by part: what was there, and then each part in turn.
-use Rattle.std.proofs.Common.{◌≡◌, ℕ, zero, suc, ◌+◌, ◌<◌, ◌≤◌, List, [], ◌∷◌, ◌++◌, map, length, get_or, drop, Some, None, Ok, Err, Result, sym, refl, ap, ◌∙◌, ⊎_elim, append_assoc, append-nil, add-one, arith, MutBor}
+use Rattle.std.proofs.Common.{◌≡◌, ℕ, zero, suc, ◌+◌, ◌<◌, ◌≤◌, List, [], ◌∷◌, ◌++◌, map, length, get_or, drop, Some, None, Ok, Err, Result, sym, refl, ap, ◌∙◌, ⊎_elim, append_assoc, append-nil, add-one, arith, Bor}
 use Rattle.std.proofs.lemmas.List.{drop_all, length-map}
 use Rattle.std.specs.List.{slice_get}
 use Rattle.refusal.specs.declared.cases.Refusal.{Refusal}
@@ -30,7 +30,7 @@ names_are : (text : List ℕ) (rows : List RowText) → Accepts text rows → na
 names_are text rows a = let v = accepts_verdict text rows a in ap names_in_reading v.2 ∙ v.1.same_names
 
 -- the name of a row is the one at its place in the list of names
-pub name_there : (text : List ℕ) (row : ℕ) (part : MutBor (List ℕ)) → Names text row (Some part) → Some part.now ≡ slice_get (names_in text) row
+pub name_there : (text : List ℕ) (row : ℕ) (part : Bor (List ℕ)) → Names text row (Some part) → Some part.now ≡ slice_get (names_in text) row
 name_there text row part n =
     let rows = n.0.0 in
     let is = n.1 rows n.0.1 in
