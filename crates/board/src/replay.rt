@@ -19,7 +19,7 @@ pub fn replay<T: Alarm + Drop>(
     alarm: T,
     calls: &[Call],
 ) -> Result<Vec<Answer>, AllocError>
-    ensures promise { IfOk result (λ answers. Replayed (rules_for plan (reach alarm) (grain alarm)) calls.now answers.items) }
+    ensures promise { IfOk result (λ answers. Replayed (rules_for plan (T.reach alarm) (T.grain alarm)) calls.now answers.items) }
     ensures acts { IfOk result (λ answers. Replays T.Alarm plan alarm calls.now answers.items) }
 {
     let mut board = Board::new(plan, alarm);

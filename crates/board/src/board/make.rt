@@ -20,7 +20,7 @@ impl<T: Alarm> Board<T> {
     /// of these rules, so the calls that a user makes are such a list.
     pub fn new(plan: Plan, alarm: T) -> Board<T>
         ensures fresh { view_of T.Alarm result ≡ fresh (length (planned plan)) }
-        ensures rules { rules_of T.Alarm result ≡ rules_for plan (reach alarm) (grain alarm) }
+        ensures rules { rules_of T.Alarm result ≡ rules_for plan (T.reach alarm) (T.grain alarm) }
         ensures cleared { Cleared T.Alarm alarm result.alarm }
         ensures promise { Promised (rules_of T.Alarm result) (view_of T.Alarm result) }
     {

@@ -181,7 +181,7 @@ impl Core {
 
     /// Gives one tick to the row, whose job comes first.
     fn feed(&mut self, row: usize)
-        requires self_lt_limit { self.now.now < limit }
+        requires before_end { self.now.now < limit }
         requires foremost { Foremost self.now.jobs.slots (Some row) }
         ensures gives { Gives (Some row) self.entry.now self.exit.now }
         ensures advances { Advances self.entry.now self.exit.now }

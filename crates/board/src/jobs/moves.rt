@@ -55,8 +55,8 @@ impl Jobs {
 
     /// Opens a job of the row, which has none, due by the tick `due`.
     fn enter(&mut self, row: usize, at: u64, due: u64)
-        requires row_bound { row < 64 }
-        requires row_value { job_at self.old.slots row ≡ None }
+        requires in_range { row < 64 }
+        requires no_job { job_at self.old.slots row ≡ None }
         ensures { self.new.slots ≡ slice_set self.old.slots row (opened at due) }
     {
         match push(&mut self.turns, self.held, Turn { due, row }) {
@@ -71,7 +71,7 @@ impl Jobs {
 
     /// Closes the row's job, which leaves the queue wherever it stands there.
     pub(crate) fn close(&mut self, row: usize)
-        requires row_bound { row < 64 }
+        requires in_range { row < 64 }
         requires working { Working self.old.slots row }
         ensures { self.new.slots ≡ slice_set self.old.slots row (closed (slot_at self.old.slots row)) }
     {
@@ -102,7 +102,7 @@ impl Jobs {
 
     /// Gives the row's job a tick; it closes when it has had its run.
     pub(crate) fn feed(&mut self, row: usize, run: u32)
-        requires row_bound { row < 64 }
+        requires in_range { row < 64 }
         requires working { Working self.old.slots row }
         ensures { (j : Job) → job_at self.old.slots row ≡ Some j → self.new.slots ≡ slice_set self.old.slots row (fed run (slot_at self.old.slots row) j) }
     {

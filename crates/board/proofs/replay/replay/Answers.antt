@@ -16,6 +16,8 @@ loop-call-preserved g c =
 pub returns : goal.returns
 returns g c =
     let n = c.new-board.ensures in
+    let told =
     replays g.T.Alarm c.args.plan c.args.alarm c.new-board.result c.loop-call.board _ c.args.calls.now (vec_items c.loop-call.answers)
     (record { view = n.fresh; rules = n.rules; cleared = n.cleared }) n.promise
-    (take_all c.loop-call.call-index c.args.calls.now c.loop-call-test.false) c.loop-call.invariant
+    (take_all c.loop-call.call-index c.args.calls.now c.loop-call-test.false) c.loop-call.invariant in
+    record { promise = told.replayed; acts = told }

@@ -21,7 +21,13 @@ invariant_of-self c =
     let l : c.args.row < rows s = omega (arith, c.count.ensures.tasks) in
     let past = write_past s c.close.new.self.slots c.args.row _ l c.close.ensures s.now (omega arith) (last_past s c.args.row (closed (slot_at s.jobs.slots c.args.row)) refl) in
     let below = write_below s c.close.new.self.slots c.args.row _ l c.close.ensures in
-    (s.clock, (s.given, (s.rest, (past, (below, tt)))))
+    record {
+      clock = s.clock;
+      given = s.given;
+      rest = s.rest;
+      past = past;
+      listed = below;
+    }
 
 pub returns-in-None : goal.returns-in-None
 returns-in-None c =

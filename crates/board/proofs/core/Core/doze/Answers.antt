@@ -6,4 +6,10 @@ use Rattle.board.proofs.core.Core.doze.Goals as goal
 pub invariant_of-self : goal.invariant_of-self
 invariant_of-self c =
     let s = c.args.self.now in
-    (omega arith, (omega arith, (omega arith, (past_more s.now s.jobs.slots s.past, (s.listed, tt)))))
+    record {
+      clock = omega arith;
+      given = omega arith;
+      rest = omega arith;
+      past = past_more s.now s.jobs.slots s.past;
+      listed = s.listed;
+    }

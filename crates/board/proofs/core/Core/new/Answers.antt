@@ -6,10 +6,14 @@ use Rattle.board.proofs.Keeping.{past_fresh, below_fresh, front_fresh}
 use Rattle.board.proofs.core.Core.new.Goals as goal
 
 pub invariant_of-result : goal.invariant_of-result
-invariant_of-result c = (
-  omega arith,
-  (omega arith, (omega arith, (past_fresh c.new.result.slots c.new.ensures, (below_fresh _ c.new.result.slots c.new.ensures, tt)))),
-)
+invariant_of-result c =
+    record {
+      clock = omega arith;
+      given = omega arith;
+      rest = omega arith;
+      past = past_fresh c.new.result.slots c.new.ensures;
+      listed = below_fresh _ c.new.result.slots c.new.ensures;
+    }
 
 pub returns : goal.returns
 returns c =

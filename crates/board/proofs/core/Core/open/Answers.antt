@@ -21,7 +21,13 @@ invariant_of-self c =
     let l : c.args.row < rows s = omega (arith, c.count.ensures.tasks) in
     let past = write_past s c.open.new.self.slots c.args.row _ l c.open.ensures s.now (omega arith) (λ t e. let q : s.now ≡ t = some_same e in omega arith) in
     let below = write_below s c.open.new.self.slots c.args.row _ l c.open.ensures in
-    (s.clock, (s.given, (s.rest, (past, (below, tt)))))
+    record {
+      clock = s.clock;
+      given = s.given;
+      rest = s.rest;
+      past = past;
+      listed = below;
+    }
 
 pub returns : goal.returns
 returns c =

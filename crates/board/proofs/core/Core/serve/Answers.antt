@@ -7,7 +7,13 @@ use Rattle.board.proofs.core.Core.serve.Goals.{in-Some, in-None}
 pub invariant_of-self : goal.invariant_of-self
 invariant_of-self c =
     let s = c.args.self.now in
-    (omega arith, (omega arith, (omega arith, (past_more s.now s.jobs.slots s.past, (s.listed, tt)))))
+    record {
+      clock = omega arith;
+      given = omega arith;
+      rest = omega arith;
+      past = past_more s.now s.jobs.slots s.past;
+      listed = s.listed;
+    }
 
 pub returns : goal.returns
 returns c =

@@ -17,21 +17,12 @@ pub invariant_of-self : goal.invariant_of-self
 invariant_of-self c =
     let s = c.args.self.now in
     let e = c.in-Some-remove.ensures in
-    let l : c.args.row < length s.slots = omega (arith, c.requires.0) in
-    let q = e.queue (omega arith, s.ordered) in (
-      length-set s.slots c.args.row _ ∙ s.size,
-      (
-        omega arith,
-        (
-          omega (arith, e.less),
-          (
-            q.1,
-            (
-              queued_left s.slots (take s.held s.turns) _ c.args.row (closed (slot_at s.slots c.args.row))
-                  c.in-Some.job l c.in-Some.is refl s.queued e.held,
-              tt,
-            ),
-          ),
-        ),
-      ),
-    )
+    let l : c.args.row < length s.slots = omega (arith, c.requires.in_range) in
+    let q = e.queue (omega arith, s.ordered) in
+    record {
+      size = length-set s.slots c.args.row _ ∙ s.size;
+      places = omega arith;
+      within = omega (arith, e.less);
+      ordered = q.1;
+      queued = queued_left s.slots (take s.held s.turns) _ c.args.row (closed (slot_at s.slots c.args.row)) c.in-Some.job l c.in-Some.is refl s.queued e.held;
+    }
