@@ -49,7 +49,7 @@ of_one tasks t until e ok =
       met = (t, omega arith, omega arith, omega arith);
     }
 
-margin_tells : (tasks : List Task) (from n : ℕ) → ((t : ℕ) → from ≤ t → need tasks t ≤ t) → LeastMargin tasks from (from + suc n) (least_margin tasks from n)
+pub margin_tells : (tasks : List Task) (from n : ℕ) → ((t : ℕ) → from ≤ t → need tasks t ≤ t) → LeastMargin tasks from (from + suc n) (least_margin tasks from n)
 unfolding least_margin
 margin_tells tasks from zero ok = of_one tasks from (from + 1) refl (ok from (omega arith))
 margin_tells tasks from (suc n) ok =
@@ -61,7 +61,7 @@ same_sleep tasks row s s' a b =
     omega (arith, a.always b.met.0 b.met.1, b.met.2, b.always a.met.0 a.met.1, a.met.2)
 
 module _ (tasks : List Task) (h : ℕ) (whole : AllWhole tasks) (common : Common tasks h) (some : 1 ≤ h) where
-  margin_sleeps : Accepted tasks → (row : ℕ) → row < length tasks → IsSleep tasks row (least_margin tasks (task_at tasks row).due (h - 1))
+  pub margin_sleeps : Accepted tasks → (row : ℕ) → row < length tasks → IsSleep tasks row (least_margin tasks (task_at tasks row).due (h - 1))
   margin_sleeps ok row l =
       let due : ℕ = (task_at tasks row).due in
       let first : 1 ≤ due = omega (arith, whole row l) in
