@@ -1,4 +1,4 @@
-//! Links the board's static library, which `rt staticlib board_c` writes to target/staticlib of the repository. The
+//! Links the board's static library, which `tools/build board_c` writes to crates/board_c/out. The
 //! variable SLEEPBOARD_LIB names another folder.
 
 use std::path::PathBuf;
@@ -9,12 +9,12 @@ fn main() {
     println!("cargo:rerun-if-env-changed=SLEEPBOARD_LIB");
     let folder = match std::env::var_os("SLEEPBOARD_LIB") {
         Some(folder) => PathBuf::from(folder),
-        None => PathBuf::from(env!("CARGO_MANIFEST_DIR")).join("../../target/staticlib"),
+        None => PathBuf::from(env!("CARGO_MANIFEST_DIR")).join("../../crates/board_c/out"),
     };
     let library = folder.join(LIBRARY);
     println!("cargo:rerun-if-changed={}", library.display());
     if !library.is_file() {
-        eprintln!("{} is missing: run `rt staticlib board_c` in the repository, or rust/check", library.display());
+        eprintln!("{} is missing: run tools/build board_c in the repository, or rust/check", library.display());
         std::process::exit(1);
     }
     println!("cargo:rustc-link-search=native={}", folder.display());

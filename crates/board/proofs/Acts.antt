@@ -18,7 +18,7 @@ use Rattle.rules.specs.Views.{View, Rules, sleep_of}
 use Rattle.rules.specs.Steps.{Entry.released, Entry.done, Entry.ticked, Entry.reported, Entry.refused, Asked, Sets, Settles, Idle, Busy, Works, Step, mode_for, mode_after}
 use Rattle.rules.specs.Steps as steps
 use Rattle.rules.proofs.Sane.{not_both}
-use Rattle.board.specs.declared.core.Core.{Core}
+use Rattle.board.specs.declared.inner.Core.{Core}
 use Rattle.board.specs.Cores.{slots_of, view, rules_for, Refusing, Tells, Opens, Settled, Serves, Dozes, Shuts}
 use Rattle.alarm.specs.declared.base.Alarm.{Ghosts}
 use Rattle.board.specs.declared.board.Board.{Board}

@@ -18,7 +18,7 @@ use Rattle.rules.specs.Views.{empty, slot_at, job_at, opened, closed, fed}
 use Rattle.rules.specs.declared.calls.Status.{Status}
 use Rattle.rules.specs.Steps.{Idle, Busy, Apart, Soon, status_for}
 use Rattle.rules.proofs.Cells.{all_set, none_some, some_same, slot_fresh, fed_last}
-use Rattle.board.specs.declared.core.Core.{Core}
+use Rattle.board.specs.declared.inner.Core.{Core}
 use Rattle.board.specs.Cores.{rows, slots_of, view, Same, Refusing, Opens, Settled, Gives, Advances, Serves, Shuts}
 use Rattle.board.specs.Jobs.{Foremost}
 use Rattle.board.proofs.Fronts.{Below, front_slot, front_job, front_set, front_idle, front_busy, front_chosen}

@@ -16,7 +16,7 @@ use Rattle.rules.specs.Logs.{call_of, calls_of, answer_of, answers_of}
 use Rattle.rules.specs.Promises.{Promise, Promised, Replayed}
 use Rattle.rules.proofs.Promises.{promises_kept}
 use Rattle.rules.proofs.Runs.{runs_more}
-use Rattle.board.specs.declared.core.Core.{Core}
+use Rattle.board.specs.declared.inner.Core.{Core}
 use Rattle.alarm.specs.declared.base.Alarm.{Ghosts}
 use Rattle.board.specs.declared.board.Board.{Board}
 use Rattle.board.specs.Cores.{view, rules_for, New}

@@ -18,7 +18,7 @@ use Rattle.rules.specs.declared.calls.Call.{Call}
 use Rattle.rules.specs.declared.calls.Status.{Status}
 use Rattle.rules.specs.Views.{empty, slot_at, job_at, opened, closed, fed, View, Rules}
 use Rattle.rules.specs.Steps.{Idle, Busy, Apart, Chosen, mode_after, status_for, Refuses}
-use Rattle.board.specs.declared.core.Core.{Core}
+use Rattle.board.specs.declared.inner.Core.{Core}
 
 abbrev pub rules_for : Plan → ℕ → ℕ → Rules
 rules_for plan reach grain = record { tasks = planned plan; sleeps = sleeps_of plan; reach = reach; grain = grain }

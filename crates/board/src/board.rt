@@ -1,5 +1,5 @@
 //! A board: the core and its alarm.
-use crate::core::Core;
+use crate::inner::Core;
 use alarm::base::Alarm;
 
 mod calls;

@@ -2,7 +2,7 @@
 --   decoded   the call that a number stands for: four times the row, and 0 for a release, 1 for a done, 2 for a tick,
 --             3 for a report
 --   encoded   the record of an answer: its kind, and what that names
-use Rattle.std.specs.Prelude.{ℕ, ◌/◌, ◌%◌, Bool, cond, Some, None, ◌==◌}
+use Rattle.std.specs.Prelude.{ℕ, ◌/◌, ◌%◌, cond, Some, None, ◌==◌}
 use Rattle.refusal.specs.Records.{number_of}
 use Rattle.rules.specs.declared.calls.Call.{Call}
 use Rattle.rules.specs.declared.calls.Call.TheVariants.{Release, Done, Tick, Report}

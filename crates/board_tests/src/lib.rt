@@ -20,7 +20,7 @@ mod tests;
 
 /// A release of the row and a tick, made on a new board.
 pub fn errand<T: Alarm + Drop>(plan: Plan, alarm: T, row: usize)
-    ensures { (log : List Entry) × (calls_of log ≡ Release row ∷ Tick ∷ []) × Promise (rules_for plan (reach alarm) (grain alarm)) log }
+    ensures { (log : List Entry) × (calls_of log ≡ Release row ∷ Tick ∷ []) × Promise (rules_for plan (T.reach alarm) (T.grain alarm)) log }
 {
     let mut board = Board::new(plan, alarm);
     let _ = board.release(row);

@@ -5,7 +5,7 @@
 --   fits       the board sleeps, and the call is a release or a tick that is accepted
 --   entry_for   what the log then has of the call
 --   view_after  what is then seen of the board; where `fits` says no, both mean nothing
-use Rattle.std.specs.Prelude.{◌≡◌, ℕ, ◌+◌, min, Bool, true, false, cond, not, ◌&&◌, List, [], ◌∷◌, set, Some, None, Option, ◌==◌, nat_le, nat_lt, slice_set}
+use Rattle.std.specs.Prelude.{◌≡◌, ℕ, ◌+◌, min, Bool, true, false, cond, not, ◌&&◌, List, [], ◌∷◌, Some, None, Option, ◌==◌, nat_le, nat_lt, slice_set}
 use Rattle.alarm.specs.Meaning.{waiting, onward, rings}
 use Rattle.rules.specs.declared.slots.Mode.{Mode}
 use Rattle.rules.specs.declared.slots.Mode.TheVariants.{Asleep, Awake}

@@ -3,12 +3,12 @@
 #![tactic(auto)]
 
 mod cutter;
+mod list;
 mod premises;
-mod table;
 
 use crate::cutter::{fan_released, head_released};
+use crate::list::figures_hold;
 use crate::premises::premises_met;
-use crate::table::figures_hold;
 use alarm::base::Alarm;
 use board::board::Board;
 use refusal::cases::Refusal;

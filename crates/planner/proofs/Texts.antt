@@ -1,10 +1,10 @@
 -- The reader's verdict comes first: where it refuses, that is the answer, and where it reads a table, the answer is the
 -- planner's. A text has only one verdict, so what is said of the one that was found is said of each.
-use Rattle.std.proofs.Common.{◌≡◌, ℕ, List, Ok, Err, Result, sym, refl, ap, ◌∙◌, subst, arith, MatchResult}
+use Rattle.std.proofs.Common.{◌≡◌, ℕ, List, Ok, Err, Result, ap, ◌∙◌, subst, arith, MatchResult}
 use Rattle.refusal.specs.declared.cases.Refusal.{Refusal}
 use Rattle.table.specs.Verdict.{Reading, then_ask, verdict}
 use Rattle.table.specs.Tasks.{LeastCommon}
-use Rattle.table.specs.Texts.{RowText, tasks, Accepts, Refuses}
+use Rattle.table.specs.Texts.{RowText, tasks, Accepts}
 use Rattle.table.proofs.Begins.{period_unique}
 use Rattle.table.proofs.Decides.{decided}
 use Rattle.table.proofs.Follows.{accepts_verdict, refuses_verdict}

@@ -1,11 +1,9 @@
 -- A page is written part by part: what was there, and then each part in turn.
-use Rattle.std.proofs.Common.{◌≡◌, ℕ, zero, suc, ◌+◌, ◌<◌, ◌≤◌, List, [], ◌∷◌, ◌++◌, map, length, get_or, drop, Some, None, Ok, Err, Result, sym, refl, ap, ◌∙◌, ⊎_elim, append_assoc, append-nil, add-one, arith, Bor}
+use Rattle.std.proofs.Common.{◌≡◌, ℕ, zero, suc, ◌+◌, ◌<◌, ◌≤◌, List, [], ◌∷◌, ◌++◌, map, length, get_or, drop, Some, None, sym, refl, ap, ◌∙◌, ⊎_elim, append_assoc, append-nil, add-one, arith, Bor}
 use Rattle.std.proofs.lemmas.List.{drop_all, length-map}
 use Rattle.std.specs.List.{slice_get}
-use Rattle.refusal.specs.declared.cases.Refusal.{Refusal}
 use Rattle.table.specs.Names.{Names}
 use Rattle.table.specs.Texts.{RowText, Accepts}
-use Rattle.table.specs.Verdict.{Reading}
 use Rattle.quote.specs.Printed.{sleep_text, sleep_texts, names_in_reading, names_in}
 use Rattle.table.proofs.Decides.{decided}
 use Rattle.table.proofs.Follows.{accepts_verdict, refuses_verdict}

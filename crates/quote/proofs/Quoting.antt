@@ -1,6 +1,6 @@
 -- The page is the one that the rules compute: of a refused text its record, whichever check refused it, and of an
 -- accepted one the plan's lines, since the plan holds the text's tasks with their load, period and sleeps.
-use Rattle.std.proofs.Common.{◌≡◌, ℕ, List, [], ◌∷◌, ◌++◌, length, Some, None, Ok, Err, Result, sym, ap, ◌∙◌, subst, ⊎_elim, append_assoc, arith}
+use Rattle.std.proofs.Common.{◌≡◌, ℕ, List, ◌++◌, length, Some, None, Ok, Err, Result, sym, ap, ◌∙◌, subst, ⊎_elim, append_assoc, arith}
 use Rattle.refusal.specs.declared.cases.Refusal.{Refusal}
 use Rattle.table.specs.Verdict.{Reading, then_ask, verdict}
 use Rattle.table.specs.Texts.{RowText, Accepts}

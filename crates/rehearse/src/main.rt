@@ -1,7 +1,7 @@
 //! `rehearse ALARM TABLE CALLS`: makes a list of calls on a board over a table's plan, and prints what each does.
 //!
 //! ALARM is `counter` or `divider`, or one of these under a layer: `ramp:W:counter` with a warm-up of W ticks,
-//! `top_up:divider` and the like. TABLE is a file with a table's text; CALLS has one call a line, as `script` reads them.
+//! `top-up:divider` and the like. TABLE is a file with a table's text; CALLS has one call a line, as `script` reads them.
 #![tactic(auto)]
 
 mod kinds;

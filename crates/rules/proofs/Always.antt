@@ -1,7 +1,7 @@
 -- What holds after a list of calls in every run, together with a run that exists: a condition on the view, computed
 -- backwards along the calls. And a job that is open at its due tick or after was open when the clock reached that tick, as
 -- the log tells.
-use Rattle.std.proofs.Common.{◌≡◌, ℕ, zero, suc, ◌+◌, ◌-◌, ◌<◌, ◌≤◌, List, [], ◌∷◌, ◌++◌, Some, sym, refl, ap, ◌∙◌, subst, append_assoc, arith}
+use Rattle.std.proofs.Common.{◌≡◌, ℕ, zero, suc, ◌+◌, ◌<◌, ◌≤◌, List, [], ◌∷◌, ◌++◌, Some, sym, refl, ap, ◌∙◌, subst, append_assoc, arith}
 use Rattle.std.proofs.lemmas.List.{append-nil}
 use Rattle.table.specs.declared.task.Task.{Task}
 use Rattle.rules.specs.declared.slots.Job.{Job}

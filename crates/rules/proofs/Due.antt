@@ -17,7 +17,7 @@ use Rattle.rules.specs.Steps.{Entry, Entry.released, Entry.done, Entry.ticked, E
 use Rattle.rules.specs.Logs.{one, tally, is_run, is_done, ticks, up_to}
 use Rattle.rules.specs.Promises.{Logged, DueKept}
 use Rattle.rules.proofs.Waits.{waiting_some}
-use Rattle.rules.proofs.Claims.{Cell, begun, backlog, backlog_none}
+use Rattle.rules.proofs.Claims.{Cell, backlog, backlog_none}
 use Rattle.rules.proofs.Room.{Room, kept, release_room, serve_room, close_room, wait_room, rest_room}
 use Rattle.rules.proofs.Cells.{cells, cell_of, next_of, until_of, left_of, within, some_same, none_some, cases_job, slot_set, slot_other, alike_set, cell_set, cell_opened, fed_cases, fed_last}
 use Rattle.rules.proofs.Sane.{Sane, not_both, Made, Mood, done_mood, sane_step, sane_fresh}

@@ -1,6 +1,6 @@
 -- From every view that the rules reach, each call has a step. The only choices are the alarm's, which may take the most
 -- that it can, and the job that is due first, which is found by looking along the slots.
-use Rattle.std.proofs.Common.{◌≡◌, ℕ, zero, suc, ◌+◌, ◌-◌, ◌<◌, ◌≤◌, min, ◌⊎◌, List, length, set, Some, None, Option, sym, refl, ap, ◌∙◌, subst, inl, inr, arith}
+use Rattle.std.proofs.Common.{◌≡◌, ℕ, zero, suc, ◌+◌, ◌<◌, ◌≤◌, min, ◌⊎◌, List, length, set, Some, None, Option, sym, refl, ap, ◌∙◌, subst, inl, inr, arith}
 use Rattle.std.proofs.lemmas.Bool.{cases_eq, cases_lt}
 use Rattle.alarm.specs.Meaning.{waiting, onward, rings}
 use Rattle.refusal.specs.declared.cases.Refusal.TheVariants.{NoSuchRow, TooSoon, ClockEnd, NoOpenJob, NotBegun}

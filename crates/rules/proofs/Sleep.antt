@@ -2,7 +2,7 @@
 -- its alarm unset. From its first release on, the alarm has at least the lesser of shortest sleep and reach left, but for
 -- less than a grain, minus the ticks gone by; a later release only sets it anew by the same bound. Which job a tick serves
 -- is not used.
-use Rattle.std.proofs.Common.{◌≡◌, ℕ, zero, suc, ◌+◌, ◌-◌, ◌<◌, ◌≤◌, min, Bool, ◌⊎◌, List, [], ◌∷◌, ◌++◌, length, Some, None, Option, sym, refl, ap, ◌∙◌, subst, inl, inr, arith}
+use Rattle.std.proofs.Common.{◌≡◌, ℕ, zero, suc, ◌+◌, ◌<◌, ◌≤◌, min, Bool, ◌⊎◌, List, [], ◌∷◌, ◌++◌, length, Some, None, Option, sym, refl, ap, ◌∙◌, subst, inl, inr, arith}
 use Rattle.std.proofs.lemmas.Bool.{cases_eq}
 use Rattle.table.specs.Tasks.{AllWhole}
 use Rattle.alarm.specs.Meaning.{rings}

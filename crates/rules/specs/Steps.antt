@@ -3,7 +3,7 @@
 --   Step    one call leads from a view to another
 --   Runs    the calls of a log, one after the other, lead from a view to another
 -- The alarm chooses its wait, within two bounds. The choice stands in the entry, so a run is fixed by its log.
-use Rattle.std.specs.Prelude.{◌≡◌, ℕ, ◌+◌, ◌<◌, ◌≤◌, min, Bool, true, false, cond, ◌⊎◌, List, [], ◌∷◌, set, Some, None, Option, ◌==◌, slice_set}
+use Rattle.std.specs.Prelude.{◌≡◌, ℕ, ◌+◌, ◌<◌, ◌≤◌, min, Bool, true, false, cond, ◌⊎◌, List, [], ◌∷◌, Some, None, Option, ◌==◌, slice_set}
 use Rattle.refusal.specs.declared.cases.Refusal.{Refusal}
 use Rattle.refusal.specs.declared.cases.Refusal.TheVariants.{NoSuchRow, TooSoon, ClockEnd, NoOpenJob, NotBegun}
 use Rattle.alarm.specs.Meaning.{waiting, onward, rings}

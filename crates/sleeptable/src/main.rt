@@ -5,10 +5,10 @@
 
 ghost use Rattle.std.specs.Prelude.{◌≤◌, length, IfOk};
 
-use anyhow::anyhow;
 use quote::page::quote_text;
 use refusal::explain::Sentence;
 use std::io::{Read, Write};
+use std::process::ExitCode;
 
 /// The most bytes that are read: one more than a text may have, so that a longer one is noticed.
 const MOST_READ: usize = 8_193;
@@ -46,10 +46,10 @@ fn run(rt: &HostRuntime) -> anyhow::Result<bool> {
     }
 }
 
-fn main(rt: HostRuntime) -> anyhow::Result<()> {
+fn main(rt: HostRuntime) -> anyhow::Result<ExitCode> {
     if run(&rt)? {
-        Ok(())
+        Ok(ExitCode::SUCCESS)
     } else {
-        Err(anyhow!("refused"))
+        Ok(ExitCode::FAILURE)
     }
 }

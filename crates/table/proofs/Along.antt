@@ -1,10 +1,10 @@
 -- Parts of a line that are read one after the other are read together: what a part says holds whatever pieces come
 -- after it, so two parts join, and a part that is stuck is stuck for the whole. Here are also the smallest parts: a
 -- mark, and a word.
-use Rattle.std.proofs.Common.{◌≡◌, ℕ, zero, suc, ◌+◌, ◌<◌, ◌≤◌, Bool, true, false, cond, eqb, List, [], ◌∷◌, ◌++◌, length, get_or, take, drop, sym, refl, ap, ◌∙◌, subst, append_assoc, append-nil, add-zero, add_assoc, arith, length-drop, eq-eqb, ne_eqb}
+use Rattle.std.proofs.Common.{◌≡◌, ℕ, zero, suc, ◌+◌, ◌<◌, ◌≤◌, Bool, true, false, cond, List, [], ◌∷◌, ◌++◌, length, get_or, take, drop, sym, refl, ap, ◌∙◌, append_assoc, add-zero, arith, length-drop, eq-eqb, ne_eqb}
 use Rattle.std.proofs.lemmas.List.{drop-drop}
 use Rattle.table.specs.Form.{Class, Piece, mark, word}
-use Rattle.table.specs.Scan.{Atom, one, upto, atoms, span, reach, fits, word_size, words_of, reaches, fitting}
+use Rattle.table.specs.Scan.{span, word_size}
 use Rattle.table.specs.Steps.{Past, Stuck}
 
 pub past_join : {ps qs : List Piece} {bs : List ℕ} {p : ℕ} {ws : List (List ℕ)} {rest : List ℕ} {q : ℕ} {vs : List (List ℕ)} {end : List ℕ} {r : ℕ}

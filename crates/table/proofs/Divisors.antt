@@ -1,12 +1,10 @@
 -- Euclid's steps keep the common divisors of the two numbers, at every multiple of them; so the product over the
 -- greatest common divisor is the least common multiple, and there is only one.
-use Rattle.std.proofs.Common.{◌≡◌, ℕ, zero, suc, ◌+◌, ◌-◌, ◌*◌, ◌/◌, ◌%◌, ◌<◌, ◌≤◌, Bool, true, false, cond, eqb, List, length, sym, refl, ap, ◌∙◌, subst, mod-lt, mul_assoc, mul_comm, mul-pos, mul-add, arith, below_more, eqb-true}
+use Rattle.std.proofs.Common.{◌≡◌, ℕ, zero, suc, ◌+◌, ◌-◌, ◌*◌, ◌/◌, ◌%◌, ◌<◌, ◌≤◌, Bool, true, false, cond, eqb, sym, refl, ap, ◌∙◌, subst, mod-lt, mul_assoc, mul_comm, mul-pos, mul-add, arith, eqb-true}
 use Prim.Native.Nat.{◌∣◌}
-use native.Mathlib.Nat.{dvd_refl, dvd-zero, dvd_trans, dvd-sub, dvd-mul_right_of_dvd, dvd-mul_left, dvd-mul_right, dvd-mod_iff, dvd_of_mul-dvd-mul_right, dvd_antisymm, div-mul_cancel, mod-add-div, pos_of_dvd_of_pos, mul-dvd-mul_left, mul-dvd-mul_right, one-dvd}
+use native.Mathlib.Nat.{dvd_refl, dvd-zero, dvd-sub, dvd-mul_right_of_dvd, dvd-mul_left, dvd-mul_right, dvd-mod_iff, dvd_of_mul-dvd-mul_right, dvd_antisymm, div-mul_cancel, mod-add-div, pos_of_dvd_of_pos, mul-dvd-mul_left, mul-dvd-mul_right}
 use borrow.Author.Tests.{eqb-false}
 use Rattle.table.specs.Common.{Measure, LeastMultiple, euclid, gcd, lcm}
-use Rattle.table.specs.Tasks.{task_at, LeastCommon}
-use Rattle.table.specs.declared.task.Task.{Task}
 
 pub record Euclid (a b high low : ℕ) : Type 0 where
   pub some : 1 ≤ high

@@ -1,11 +1,11 @@
 -- One task more: what holds of each task so far and of the new one holds of all, and the least common multiple of the
 -- common period and the new gap is the common period of all.
-use Rattle.std.proofs.Common.{◌≡◌, ℕ, ◌+◌, ◌<◌, ◌≤◌, List, [], ◌∷◌, ◌++◌, length, get_or, take, set, sym, refl, ap, ◌∙◌, subst, arith, below_more}
+use Rattle.std.proofs.Common.{◌≡◌, ℕ, ◌+◌, ◌<◌, ◌≤◌, List, [], ◌∷◌, ◌++◌, length, take, set, sym, refl, subst, arith, below_more}
 use Prim.Native.Nat.{◌∣◌}
 use native.Mathlib.Nat.{dvd_trans}
 use Rattle.std.proofs.lemmas.List.{length-append, get_or_append_left, get_or_push, take_more_set}
 use Rattle.table.specs.Common.{LeastMultiple}
-use Rattle.table.specs.Tasks.{task_at, Whole, AllWhole, Bounded, Common, LeastCommon}
+use Rattle.table.specs.Tasks.{task_at, Whole, AllWhole, Bounded, Common}
 use Rattle.table.specs.declared.task.Task.{Task}
 
 all_push : (P : Task → Type 0) (ts : List Task) (t : Task) → ((row : ℕ) → row < length ts → P (task_at ts row)) → P t

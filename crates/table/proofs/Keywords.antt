@@ -1,14 +1,14 @@
 -- A keyword is read by the word that stands there: up to where the keyword ends, the word and the text go on alike,
 -- since every byte of the keyword could stand in a word. So what the word has in common with the keyword is what the
 -- text has, and that is the place of the first byte that differs.
-use Rattle.std.proofs.Common.{◌≡◌, ℕ, zero, suc, ◌+◌, ◌<◌, ◌≤◌, Bool, true, false, cond, ◌||◌, eqb, List, [], ◌∷◌, ◌++◌, length, get_or, take, drop, sym, refl, ap, ◌∙◌, subst, true≢false, add-zero, arith, length-drop, eq-eqb, ne_eqb, eqb-true}
+use Rattle.std.proofs.Common.{◌≡◌, ℕ, zero, suc, ◌+◌, ◌<◌, ◌≤◌, Bool, true, false, cond, eqb, List, [], ◌∷◌, length, get_or, take, drop, sym, refl, ap, ◌∙◌, true≢false, add-zero, arith, eq-eqb, ne_eqb, eqb-true}
 use Rattle.std.proofs.ByRecursion.{All-weaker}
 use Rattle.std.proofs.lemmas.List.{drop_more, drop_all}
 use Rattle.std.proofs.lemmas.Bool.Decides.{nat_tests}
 use Rattle.std.specs.List.{AllByRecursion as All}
-use Rattle.table.specs.Form.{Piece, mark, word}
-use Rattle.table.specs.Lines.{letter, digit, a_name, exactly}
-use Rattle.table.specs.Scan.{span, word_size, reaches, fitting, words_of}
+use Rattle.table.specs.Form.{mark}
+use Rattle.table.specs.Lines.{letter, a_name, exactly}
+use Rattle.table.specs.Scan.{span, word_size}
 use Rattle.table.specs.Steps.{Past, Stuck, Title, shared}
 use Rattle.table.proofs.Along.{past_join, stuck_first, stuck_then, past_mark, stuck_mark, word_first, word_not_first}
 

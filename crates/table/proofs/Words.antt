@@ -8,7 +8,7 @@ use Rattle.table.specs.Bytes.{is_name_byte, is_number_byte, stretch}
 use Rattle.table.specs.Form.{Class}
 use Rattle.table.specs.Lines.{letter, digit, lead, a_name, a_number, decimal_after, decimal}
 use Rattle.table.specs.Scan.{span, word_size}
-use Rattle.table.specs.Tokens.{Lexeme, a_word, a_numeral, a_mark, another, the_end, byte_of, lexeme, lexeme_of, numbered}
+use Rattle.table.specs.Tokens.{Lexeme, a_word, a_numeral, a_mark, another, byte_of, lexeme, lexeme_of, numbered}
 use Rattle.table.specs.declared.token.Token.{Token}
 use Rattle.table.specs.declared.token.Token.TheVariants.{Word, Number, Sign, Other, End}
 use Rattle.table.specs.declared.token.Mark.{Mark}

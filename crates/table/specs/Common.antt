@@ -2,7 +2,7 @@
 --   Measure         the greatest common divisor, by what it divides and what divides it
 --   LeastMultiple   the least common multiple: a multiple of both, and a divisor of every such
 --   gcd, lcm        the same computed, by Euclid's steps; common of a list of gaps
-use Rattle.std.specs.Prelude.{ℕ, zero, suc, ◌+◌, ◌*◌, ◌/◌, ◌%◌, ◌≤◌, cond, List, [], ◌∷◌, ◌==◌}
+use Rattle.std.specs.Prelude.{ℕ, zero, suc, ◌+◌, ◌*◌, ◌/◌, ◌%◌, ◌≤◌, cond, ◌==◌}
 use Rattle.std.specs.Int.{◌∣◌}
 
 -- g divides a and b, and what divides the same multiple of both divides that multiple of g

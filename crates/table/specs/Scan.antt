@@ -4,7 +4,7 @@
 --   fits       whether all of them were found
 --   word_size   how many bytes at the front make a word
 --   words_of    the words that stand in the text where the description has them
-use Rattle.std.specs.Prelude.{ℕ, zero, suc, ◌+◌, Bool, true, false, cond, ◌&&◌, List, [], ◌∷◌, ◌++◌, take, drop, nat_eq}
+use Rattle.std.specs.Prelude.{ℕ, zero, suc, ◌+◌, Bool, true, false, cond, ◌&&◌, List, [], ◌∷◌, take, drop, nat_eq}
 use Rattle.table.specs.Form.{Class, Piece, mark, word}
 
 pub data Atom : Type 0 where

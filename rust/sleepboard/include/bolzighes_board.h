@@ -1,4 +1,4 @@
-/* The board for programs in C. Link libboard_c.a, which `rt staticlib board_c` writes to target/staticlib.
+/* The board for programs in C. Link libboard_c.a, which `tools/build board_c` writes to crates/board_c/out.
  *
  * docs/board.md of the repository says what a board does and answers, docs/alarms.md what the alarms are, and
  * docs/refusals.md which number stands for which refusal.

@@ -1,4 +1,4 @@
-/* The sleep planner for programs in C. Link libplanner_c.a, which `rt staticlib planner_c` writes to target/staticlib.
+/* The sleep planner for programs in C. Link libplanner_c.a, which `tools/build planner_c` writes to crates/planner_c/out.
  *
  * A table is a text; docs/refusals.md of the repository says which texts are refused, and with which number, and
  * docs/demand.md what a sleep is.

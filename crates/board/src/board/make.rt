@@ -8,7 +8,7 @@ ghost use Rattle.board.specs.Cores.{rules_for};
 ghost use Rattle.board.specs.Boards.{view_of, rules_of};
 
 use crate::board::Board;
-use crate::core::Core;
+use crate::inner::Core;
 use alarm::base::Alarm;
 use planner::plan::Plan;
 

@@ -77,7 +77,7 @@ fn compare_calls(text: &[u8], tally: &mut Tally) {
 
 /// The program that prints plans: the one of the repository, or what SLEEPTABLE names.
 fn program() -> PathBuf {
-    let built = Path::new(env!("CARGO_MANIFEST_DIR")).join("../../target/bin/sleeptable");
+    let built = Path::new(env!("CARGO_MANIFEST_DIR")).join("../../crates/sleeptable/out/sleeptable");
     std::env::var_os("SLEEPTABLE").map_or(built, PathBuf::from)
 }
 

@@ -1,4 +1,4 @@
-use Rattle.std.proofs.Common.{◌≡◌, ◌≤◌, vec_items, sym, ◌∙◌, subst}
+use Rattle.std.proofs.Common.{◌≤◌, vec_items, subst}
 use Rattle.planner.specs.Plans.{sleeps_of}
 use Rattle.quote.specs.Printed.{names_in}
 use Rattle.quote.proofs.Pages.{name_there, name_none, row_added, no_name_left, all_added}

@@ -1,4 +1,4 @@
-use Rattle.std.proofs.Common.{◌≡◌, ◌++◌, vec_items, sym, ap, ◌∙◌, append-nil}
+use Rattle.std.proofs.Common.{◌++◌, vec_items, sym, ap, ◌∙◌, append-nil}
 use Rattle.quote.specs.Printed.{shortest_line_of}
 use Rattle.quote.proofs.page.add_shortest.Goals as goal
 

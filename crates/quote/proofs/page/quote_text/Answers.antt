@@ -1,4 +1,4 @@
-use Rattle.std.proofs.Common.{◌≡◌, ◌++◌, ap, ◌∙◌}
+use Rattle.std.proofs.Common.{◌++◌, ap, ◌∙◌}
 use Rattle.planner.specs.Computed.{shortest_of}
 use Rattle.planner.specs.Plans.{sleeps_of}
 use Rattle.quote.specs.Printed.{sleep_texts, shortest_line_of, names_in}

@@ -1,5 +1,4 @@
 use Rattle.std.proofs.Common.{◌≡◌, length, drop, arith, length-drop}
-use Rattle.table.specs.Steps.{shared}
 use Rattle.table.proofs.Keywords.{shared_more, shared_left, shared_right, shared_apart}
 use Rattle.table.proofs.cursor.common_front.Goals as goal
 

@@ -1,4 +1,3 @@
-use Rattle.std.proofs.Common.{ℕ, ◌*◌, ◌≤◌}
 use Rattle.table.proofs.Divisors.{Euclid}
 use Rattle.table.proofs.period.gcd.Given as goal
 

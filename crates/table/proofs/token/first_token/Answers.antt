@@ -1,7 +1,7 @@
-use Rattle.std.proofs.Common.{◌≡◌, ◌-◌, ◌<◌, true, length, get_or, take, sym, refl, ap, ◌∙◌, arith, ltb-false, ltb-true}
+use Rattle.std.proofs.Common.{◌≡◌, ◌-◌, ◌<◌, true, length, get_or, take, sym, refl, ap, ◌∙◌, arith}
 use native.Mathlib.Nat.{sub-zero}
 use Rattle.std.proofs.lemmas.Bool.Decides.{nat_tests}
-use Rattle.table.specs.Lines.{letter, lead, a_name, a_number, decimal}
+use Rattle.table.specs.Lines.{letter, lead, a_number, decimal}
 use Rattle.table.specs.Scan.{word_size}
 use Rattle.table.specs.Tokens.{a_word, a_numeral, numbered}
 use Rattle.table.proofs.Words.{name_stretch, number_stretch, lexeme_word, lexeme_number}

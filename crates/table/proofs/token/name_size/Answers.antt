@@ -1,6 +1,6 @@
-use Rattle.std.proofs.Common.{◌<◌, length, sym, ◌∙◌, arith, rules, ltb-false, ltb-true}
+use Rattle.std.proofs.Common.{◌<◌, length, sym, ◌∙◌, arith, ltb-false, ltb-true}
 use Rattle.table.specs.Bytes.{is_name_byte}
-use Rattle.table.proofs.Loops.{after, length_after, stretch_more, stretch_none}
+use Rattle.table.proofs.Loops.{length_after, stretch_more, stretch_none}
 use Rattle.table.proofs.token.name_size.Goals as goal
 
 pub loop-rest-preserved : goal.loop-rest-preserved

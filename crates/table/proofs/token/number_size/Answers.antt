@@ -1,6 +1,6 @@
-use Rattle.std.proofs.Common.{◌<◌, length, get_or, sym, ◌∙◌, arith, rules, ltb-false, ltb-true}
+use Rattle.std.proofs.Common.{◌<◌, length, get_or, sym, ◌∙◌, arith, ltb-false, ltb-true}
 use Rattle.table.specs.Bytes.{is_number_byte}
-use Rattle.table.proofs.Loops.{after, length_after, stretch_more, stretch_none, stretch_ends, counts_more, counts_end, pow_more}
+use Rattle.table.proofs.Loops.{length_after, stretch_more, stretch_none, stretch_ends, counts_more, counts_end, pow_more}
 use Rattle.table.proofs.token.number_size.Goals as goal
 
 pub returns-then-not-number_byte : goal.returns-then-not-number_byte

@@ -4,7 +4,7 @@ use Rattle.refusal.specs.declared.cases.Refusal.TheVariants.{ClockEnd}
 use Rattle.rules.specs.declared.slots.Mode.TheVariants.{Asleep, Awake}
 use Rattle.rules.specs.declared.calls.Call.TheVariants.{Release, Done, Tick, Report}
 use Rattle.rules.specs.Steps.{Entry.released, Entry.done, Entry.ticked, Entry.reported, Entry.refused}
-use Rattle.board.specs.declared.core.Core.{Core}
+use Rattle.board.specs.declared.inner.Core.{Core}
 use Rattle.board.specs.Cores.{rules_for}
 use Rattle.board.specs.Boards.{Asking}
 use Rattle.board.proofs.Acts.{refuses, ends, reports, releases_awake, releases_asleep, ticks_asleep, ticks_awake, closes, same_rules, not_released, not_closed, not_ticked, not_reported, calms, calmed_by, passing}

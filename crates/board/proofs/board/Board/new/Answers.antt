@@ -1,5 +1,4 @@
 -- The promises are proved of every run of the rules, in the crate of the rules; a plan's type has what they ask of it.
-use Rattle.rules.specs.Views.{fresh}
 use Rattle.board.proofs.Acts.{same_rules}
 use Rattle.board.proofs.Making.{new_view, promised}
 use Rattle.board.proofs.board.Board.new.Goals as goal

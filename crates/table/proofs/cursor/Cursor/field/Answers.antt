@@ -1,5 +1,5 @@
 -- Each exit is the parts read so far with the one that was stuck.
-use Rattle.std.proofs.Common.{ℕ, List, [], ◌∷◌, ◌++◌}
+use Rattle.std.proofs.Common.{List, [], ◌∷◌, ◌++◌}
 use Rattle.std.proofs.lemmas.Result.{err_from_is_err_and}
 use Rattle.table.specs.Form.{Piece, mark, word}
 use Rattle.table.specs.Lines.{a_number, exactly}

@@ -1,6 +1,5 @@
-use Rattle.std.proofs.Common.{◌≡◌, ◌<◌, ◌≤◌, length, sym, ap, ◌∙◌, arith}
+use Rattle.std.proofs.Common.{◌<◌, length, ◌∙◌, arith}
 use Rattle.table.specs.Lines.{a_name}
-use Rattle.table.specs.Steps.{shared}
 use Rattle.table.proofs.Along.{word_within}
 use Rattle.table.proofs.Keywords.{shared_front, no_keyword, past_exactly_by, stuck_exactly_by}
 use Rattle.table.proofs.Words.{word_token, no_word}

@@ -1,8 +1,7 @@
 -- The part of the array from its start is its first rows, of which the type knows the limits.
-use Rattle.std.proofs.Common.{◌≡◌, ℕ, ◌-◌, ◌≤◌, List, length, take, sym, ap, ◌∙◌, subst, arith, rules}
+use Rattle.std.proofs.Common.{◌≡◌, ◌-◌, ◌≤◌, length, take, sym, ap, ◌∙◌, subst, arith}
 use native.Mathlib.Nat.{sub-zero}
 use Rattle.std.proofs.lemmas.List.{length-take-le}
-use Rattle.table.specs.declared.task.Task.{Task}
 use Rattle.table.specs.Tasks.{AllWhole, Bounded}
 use Rattle.table.proofs.rows.Table.tasks.Goals as goal
 

@@ -2,7 +2,7 @@
 use Rattle.std.proofs.Common.{length, refl}
 use Rattle.planner.specs.Plans.{planned}
 use Rattle.board.proofs.Keeping.{settled_idle, settled_busy}
-use Rattle.board.proofs.core.Core.settle.Goals as goal
+use Rattle.board.proofs.inner.Core.settle.Goals as goal
 
 pub returns-then-is_idle : goal.returns-then-is_idle
 returns-then-is_idle c =

@@ -4,7 +4,7 @@ use Rattle.std.proofs.lemmas.Option.{slice_get-get_or}
 use Rattle.rules.proofs.Cells.{none_some, some_same}
 use Rattle.planner.specs.Plans.{sleeps_of}
 use Rattle.planner.proofs.Plans.{tasks_count, sleeps_count}
-use Rattle.board.proofs.core.Core.sleep.Goals as goal
+use Rattle.board.proofs.inner.Core.sleep.Goals as goal
 
 pub unreachable-requires : goal.unreachable-requires
 unreachable-requires c =

@@ -2,7 +2,7 @@
 use Rattle.std.proofs.Common.{length}
 use Rattle.planner.specs.Plans.{planned}
 use Rattle.board.proofs.Keeping.{idle_or_busy_front}
-use Rattle.board.proofs.core.Core.is_idle.Goals as goal
+use Rattle.board.proofs.inner.Core.is_idle.Goals as goal
 
 pub returns : goal.returns
 returns c =

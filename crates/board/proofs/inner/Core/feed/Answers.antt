@@ -1,7 +1,7 @@
 -- The row that comes first is one of the plan's, and its slot is the one that is written.
 use Rattle.std.proofs.Common.{◌+◌, refl, arith}
 use Rattle.board.proofs.Keeping.{write_past, write_below, foremost_listed, feeds, fed_past}
-use Rattle.board.proofs.core.Core.feed.Goals as goal
+use Rattle.board.proofs.inner.Core.feed.Goals as goal
 
 pub task-task-requires : goal.task-task-requires
 task-task-requires c = foremost_listed c.args.self.now c.args.row c.requires.foremost

@@ -1,7 +1,7 @@
 -- The clock moves on, so every last release stays past.
 use Rattle.std.proofs.Common.{arith}
 use Rattle.board.proofs.Keeping.{past_more}
-use Rattle.board.proofs.core.Core.doze.Goals as goal
+use Rattle.board.proofs.inner.Core.doze.Goals as goal
 
 pub invariant_of-self : goal.invariant_of-self
 invariant_of-self c =

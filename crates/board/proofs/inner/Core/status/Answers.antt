@@ -2,7 +2,7 @@
 use Rattle.std.proofs.Common.{sym, ap, ◌∙◌, arith}
 use Rattle.rules.specs.declared.slots.Slot.{Slot}
 use Rattle.board.proofs.Keeping.{tells_none, tells_some}
-use Rattle.board.proofs.core.Core.status.Goals as goal
+use Rattle.board.proofs.inner.Core.status.Goals as goal
 
 pub returns-in-None : goal.returns-in-None
 returns-in-None c =

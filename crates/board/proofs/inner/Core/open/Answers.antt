@@ -4,7 +4,7 @@ use Rattle.table.specs.declared.task.Task.{Task}
 use Rattle.rules.proofs.Cells.{some_same}
 use Rattle.board.specs.Cores.{rows}
 use Rattle.board.proofs.Keeping.{write_past, write_below, refuses_soon, opens}
-use Rattle.board.proofs.core.Core.open.Goals as goal
+use Rattle.board.proofs.inner.Core.open.Goals as goal
 
 pub returns-then-not-is_apart : goal.returns-then-not-is_apart
 returns-then-not-is_apart c =

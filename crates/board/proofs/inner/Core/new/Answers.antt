@@ -3,7 +3,7 @@ use Rattle.std.proofs.Common.{length, refl, arith}
 use Rattle.planner.specs.Plans.{planned}
 use Rattle.planner.proofs.Plans.{tasks_count}
 use Rattle.board.proofs.Keeping.{past_fresh, below_fresh, front_fresh}
-use Rattle.board.proofs.core.Core.new.Goals as goal
+use Rattle.board.proofs.inner.Core.new.Goals as goal
 
 pub invariant_of-result : goal.invariant_of-result
 invariant_of-result c =

@@ -4,7 +4,7 @@ use Rattle.rules.specs.declared.slots.Slot.{Slot}
 use Rattle.rules.specs.Views.{slot_at, closed}
 use Rattle.board.specs.Cores.{rows}
 use Rattle.board.proofs.Keeping.{write_past, write_below, last_past, refuses_closed, refuses_unbegun, shuts}
-use Rattle.board.proofs.core.Core.close.Goals as goal
+use Rattle.board.proofs.inner.Core.close.Goals as goal
 
 pub returns-then-not-has_begun : goal.returns-then-not-has_begun
 returns-then-not-has_begun c =

@@ -3,7 +3,7 @@ use Rattle.std.proofs.Common.{sym, ◌∙◌, arith}
 use Rattle.std.proofs.lemmas.Option.{slice_get-get_or}
 use Rattle.rules.proofs.Cells.{none_some, some_same}
 use Rattle.planner.specs.Plans.{planned}
-use Rattle.board.proofs.core.Core.task.Goals as goal
+use Rattle.board.proofs.inner.Core.task.Goals as goal
 
 pub unreachable-requires : goal.unreachable-requires
 unreachable-requires c =

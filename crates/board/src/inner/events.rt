@@ -11,7 +11,7 @@ ghost use Rattle.rules.specs.Steps.{Idle, Busy, Apart, Soon};
 ghost use Rattle.board.specs.Cores.{rows, slots_of, New, Same, Tells, Refusing, Opens, Settled, Gives, Advances, Serves, Dozes, Shuts};
 ghost use Rattle.board.specs.Jobs.{Foremost};
 
-use crate::core::{CLOCK_END, Core};
+use crate::inner::{CLOCK_END, Core};
 use crate::jobs::Jobs;
 use planner::plan::Plan;
 use refusal::cases::Refusal;

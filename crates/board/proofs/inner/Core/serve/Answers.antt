@@ -1,8 +1,8 @@
 -- With no job open only the clock moves on.
 use Rattle.std.proofs.Common.{Some, refl, ◌∙◌, arith}
 use Rattle.board.proofs.Keeping.{past_more, serves_by, serves_none}
-use Rattle.board.proofs.core.Core.serve.Goals as goal
-use Rattle.board.proofs.core.Core.serve.Goals.{in-Some, in-None}
+use Rattle.board.proofs.inner.Core.serve.Goals as goal
+use Rattle.board.proofs.inner.Core.serve.Goals.{in-Some, in-None}
 
 pub invariant_of-self : goal.invariant_of-self
 invariant_of-self c =

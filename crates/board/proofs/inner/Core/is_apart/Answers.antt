@@ -3,7 +3,7 @@ use Rattle.std.proofs.Common.{◌≡◌, Some, sym, ap, ◌∙◌}
 use Rattle.rules.specs.declared.slots.Slot.{Slot}
 use Rattle.rules.specs.Views.{slot_at}
 use Rattle.board.proofs.Keeping.{apart_some}
-use Rattle.board.proofs.core.Core.is_apart.Goals as goal
+use Rattle.board.proofs.inner.Core.is_apart.Goals as goal
 
 pub overflow_sub-result : goal.overflow_sub-result
 overflow_sub-result c =
