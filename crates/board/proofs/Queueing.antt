@@ -3,7 +3,7 @@
 -- that turn alone. A write to one slot changes such a sum by what the slot was and is worth.
 use Rattle.std.proofs.Common.{◌≡◌, ℕ, zero, suc, ◌+◌, ◌<◌, ◌≤◌, false, cond, ◌&&◌, eqb, ◌⊎◌, List, [], ◌∷◌, length, get_or, take, set, replicate, Some, None, MatchBool, sum_by, Option, sym, refl, ap, ◌∙◌, subst, inl, inr, arith}
 use Rattle.std.specs.List.Sorted.{IsPermutation}
-use Rattle.std.specs.List.{ContainsAt as Has}
+use Rattle.std.specs.List.{ContainsAt}
 use Rattle.std.proofs.lemmas.List.{length-set}
 use Rattle.std.proofs.lemmas.List.Sums.{sum_by-cons, get_or-le-sum_by}
 use Rattle.std.proofs.lemmas.List.Sorted.{sum_by-IsPermutation}
@@ -80,32 +80,32 @@ sum_to_some (suc n) f h = go (cases_lt 0 (f n)) (λ k. sum_to_some n f k)
     go (inl k) _ = (n, omega arith, k)
     go (inr k) more = let r = more (omega arith) in (r.0, omega (arith, r.1), r.2)
 
-sum_by_some : (f : Turn → ℕ) (xs : List Turn) → 0 < sum_by f xs → (x : Turn) × Has xs x × (0 < f x)
+sum_by_some : (f : Turn → ℕ) (xs : List Turn) → 0 < sum_by f xs → (x : Turn) × ContainsAt xs x × (0 < f x)
 sum_by_some f [] h = absurd (omega arith)
 sum_by_some f (x ∷ xs) h = go (cases_lt 0 (f x)) (λ k. sum_by_some f xs k)
   where
-    go : (0 < f x) ⊎ (f x ≤ 0) → (0 < sum_by f xs → (y : Turn) × Has xs y × (0 < f y)) → (y : Turn) × Has (x ∷ xs) y × (0 < f y)
+    go : (0 < f x) ⊎ (f x ≤ 0) → (0 < sum_by f xs → (y : Turn) × ContainsAt xs y × (0 < f y)) → (y : Turn) × ContainsAt (x ∷ xs) y × (0 < f y)
     go (inl k) _ = (x, (0, omega arith, λ d. refl), k)
     go (inr k) more =
         let r = more (omega (arith, sum_by-cons f x xs)) in
         (r.0, (suc r.1.0, omega (arith, r.1.1), λ d. r.1.2 d), r.2)
 
 -- an open job's turn is held
-pub open_held : (slots : List Slot) (turns : List Turn) (row : ℕ) (j : Job) → Queued slots turns → job_at slots row ≡ Some j → Has turns (turn_of row j)
+pub open_held : (slots : List Slot) (turns : List Turn) (row : ℕ) (j : Job) → Queued slots turns → job_at slots row ≡ Some j → ContainsAt turns (turn_of row j)
 open_held slots turns row j q e =
     let x : Turn = turn_of row j in
     let l : row < length slots = within slots row j e in
     let w : worth (at x) row (job_at slots row) ≡ 1 = ap (worth (at x) row) e ∙ at_self x in
     let s : worth (at x) row (job_at slots row) ≤ sum_to (length slots) (λ i. worth (at x) i (job_at slots i)) = sum_to_at (length slots) (λ i. worth (at x) i (job_at slots i)) row l in
     let r = sum_by_some (at x) turns (omega (arith, q (at x))) in
-    subst (Has turns) (sym (at_some x r.0 r.2)) r.1
+    subst (ContainsAt turns) (sym (at_some x r.0 r.2)) r.1
 
 worth_some : (x : Turn) (row : ℕ) (o : Option Job) → 0 < worth (at x) row o → (j : Job) × (o ≡ Some j) × (x ≡ turn_of row j)
 worth_some x row None h = absurd (omega arith)
 worth_some x row (Some j) h = (j, refl, at_some x (turn_of row j) h)
 
 -- a turn that is held is that of an open job
-pub held_open : (slots : List Slot) (turns : List Turn) (x : Turn) → Queued slots turns → Has turns x
+pub held_open : (slots : List Slot) (turns : List Turn) (x : Turn) → Queued slots turns → ContainsAt turns x
     → (x.row < length slots) × ((j : Job) × (job_at slots x.row ≡ Some j) × (j.due ≡ x.due))
 held_open slots turns x q (k, l, is) =
     let one : at x (get_or turns k x) ≡ 1 = ap (at x) (is x) ∙ at_self x in

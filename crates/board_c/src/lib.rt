@@ -6,7 +6,7 @@
 
 ghost use Rattle.std.specs.Prelude.{◌≤◌, length};
 ghost use mir.Syntax.{Dict};
-ghost use Rattle.alarm.specs.contracts.ramp.RampAlarm.TheImpl.{ghosts as rampOver};
+ghost use Rattle.alarm.specs.contracts.ramp.RampAlarm.TheImpl.{ghosts as ramp_over};
 ghost use Rattle.board_c.specs.Called.{Answered, Over, Called};
 
 use crate::codes::{decode, encode};
@@ -49,7 +49,7 @@ fn answer_over<T: Alarm + Drop>(
     answers: &mut [AnswerRecord],
 ) -> u32
     requires { length calls.now ≤ length answers.now }
-    ensures { (calls-of : Dict) → Over T.Alarm (rampOver T.row T.Alarm calls-of) plan alarm warm calls.now answers.entry.now result answers.exit.now }
+    ensures { (calls-of : Dict) → Over T.Alarm (ramp_over T.row T.Alarm calls-of) plan alarm warm calls.now answers.entry.now result answers.exit.now }
 {
     if warm == 0 {
         answer_all(plan, alarm, calls, answers);

@@ -2,7 +2,7 @@
 use Rattle.std.proofs.Common.{◌≡◌, true, List, [], ◌∷◌, refl}
 use Rattle.std.proofs.lemmas.Slice.Eq.{bytes_eq-Decides}
 use Rattle.std.proofs.lemmas.Bool.{and_parts, eqb-true}
-use Rattle.std.specs.List.{AllByRecursion as All}
+use Rattle.std.specs.List.{AllByRecursion}
 use Rattle.table.specs.Verdict.{joined, lined, rows_from, counted, verdict}
 use Rattle.table.specs.Common.{euclid, gcd, lcm}
 use Rattle.planner.specs.Computed.{first_failure, least_margin, sleep_list, shortest_of, computed}
@@ -32,7 +32,7 @@ test_tells (share tasks h sleeps) e = (bytes_eq-Decides (by_share h 0 tasks) sle
 test_tells (near tasks h row margin) e = nearby_tells tasks h row margin e
 test_tells (left tasks sleeps reach calls ticks) e = leads_so tasks sleeps reach calls ticks e
 
-all_tell : (cs : List Case) → all_cases_pass cs ≡ true → All Holds cs
+all_tell : (cs : List Case) → all_cases_pass cs ≡ true → AllByRecursion Holds cs
 unfolding all_cases_pass
 all_tell [] e = tt
 all_tell (c ∷ cs) e = let a = and_parts (passes c) (all_cases_pass cs) e in (test_tells c a.0, all_tell cs a.1)
@@ -41,7 +41,7 @@ all_pass : all_cases_pass cases ≡ true
 unfolding all_cases_pass passes typed untyped verdict counted rows_from lined joined quoted declined nearby by_share shortest_of tabled all_whole common_from sleeps_in refused_in lcm gcd euclid computed first_failure least_margin sleep_list need load demand sum_to wait_of leads fit_all hushed_all end_of
 all_pass = refl
 
-pub figures : All Holds cases
+pub figures : AllByRecursion Holds cases
 figures = all_tell cases all_pass
 
 -- the cutter's

@@ -1,7 +1,7 @@
 -- The tests of a table's rows tell: rows that pass are whole, and the least common multiple, taken row by row, is the
 -- common period of all.
 use Rattle.std.proofs.Common.{◌≡◌, ℕ, true, ◌&&◌, leb, List, [], ◌∷◌, ◌++◌, sym, subst, append_assoc, append-nil, arith}
-use Rattle.std.specs.List.{AllByRecursion as All}
+use Rattle.std.specs.List.{AllByRecursion}
 use Rattle.std.proofs.ByRecursion.{All-get_or}
 use Rattle.std.proofs.lemmas.Bool.{and_parts, leb-true}
 use Rattle.table.specs.declared.task.Task.{Task}
@@ -12,7 +12,7 @@ use Rattle.table.proofs.Divisors.{lcm_least}
 use Rattle.table.proofs.Drafting.{common_push, least_push}
 use Rattle.figures.specs.Tables.{all_whole, common_from}
 
-each_whole : (tasks : List Task) → all_whole tasks ≡ true → All Whole tasks
+each_whole : (tasks : List Task) → all_whole tasks ≡ true → AllByRecursion Whole tasks
 unfolding all_whole
 each_whole [] e = tt
 each_whole (t ∷ tasks) e =
@@ -24,7 +24,7 @@ each_whole (t ∷ tasks) e =
 pub whole_rows : (tasks : List Task) → all_whole tasks ≡ true → AllWhole tasks
 whole_rows tasks e row l = All-get_or Whole tasks row (record { run = 0; due = 0; gap = 0 }) l (each_whole tasks e)
 
-common_on : (done tasks : List Task) (h : ℕ) → LeastCommon done h → All Whole tasks → LeastCommon (done ++ tasks) (common_from h tasks)
+common_on : (done tasks : List Task) (h : ℕ) → LeastCommon done h → AllByRecursion Whole tasks → LeastCommon (done ++ tasks) (common_from h tasks)
 unfolding common_from
 common_on done [] h s w = subst (λ ts. LeastCommon ts h) (sym (append-nil done)) s
 common_on done (t ∷ tasks) h s w =

@@ -1,6 +1,6 @@
 //! The worked figures as theorems about the definitions that the contracts cite.
 ghost use Rattle.std.specs.Prelude.{◌≡◌, length};
-ghost use Rattle.std.specs.List.{AllByRecursion as All};
+ghost use Rattle.std.specs.List.{AllByRecursion};
 ghost use Rattle.figures.specs.Cases.{Holds, TestTells};
 ghost use Rattle.figures.specs.Figures.{cases};
 
@@ -8,7 +8,7 @@ ghost use Rattle.figures.specs.Figures.{cases};
 /// many there are.
 pub fn figures_hold() -> usize
     ensures tells { TestTells }
-    ensures hold { All Holds cases }
+    ensures hold { AllByRecursion Holds cases }
     ensures count { result ≡ length cases }
 {
     24

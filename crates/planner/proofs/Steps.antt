@@ -4,7 +4,7 @@ use Rattle.std.proofs.Common.{◌≡◌, ℕ, ◌+◌, ◌-◌, ◌*◌, ◌/◌
 use native.Mathlib.Nat.{mod_self, div_self, div-eq_of_lt}
 use Rattle.std.proofs.lemmas.Bool.{cases_eq}
 use Rattle.std.specs.List.Sorted.{IsPermutation}
-use Rattle.std.specs.List.{AllByRecursion as All}
+use Rattle.std.specs.List.{AllByRecursion}
 use Rattle.std.proofs.ByRecursion.{All-weaker, All-get_or, sum_by_le, all_shuffled}
 use Rattle.std.proofs.lemmas.List.{length-take-le, get_or-take, get_or_default}
 use Rattle.std.proofs.lemmas.List.Sums.{sum_by-cons}
@@ -57,17 +57,17 @@ waits_later tasks now later p l w h =
       jump = w.jump;
     }
 
-all_both : {X : Type 0} (P Q R : X → Type 0) → ((x : X) → P x → Q x → R x) → (xs : List X) → All P xs → All Q xs → All R xs
+all_both : {X : Type 0} (P Q R : X → Type 0) → ((x : X) → P x → Q x → R x) → (xs : List X) → AllByRecursion P xs → AllByRecursion Q xs → AllByRecursion R xs
 all_both P Q R f [] a b = tt
 all_both P Q R f (x ∷ xs) a b = (f x a.0 b.0, all_both P Q R f xs a.1 b.1)
 
-sum_by_same : {X : Type 0} (f g : X → ℕ) (xs : List X) → All (λ x. f x ≡ g x) xs → sum_by f xs ≡ sum_by g xs
+sum_by_same : {X : Type 0} (f g : X → ℕ) (xs : List X) → AllByRecursion (λ x. f x ≡ g x) xs → sum_by f xs ≡ sum_by g xs
 sum_by_same f g [] h = refl
 sum_by_same f g (x ∷ xs) h = omega (arith, sum_by-cons f x xs, sum_by-cons g x xs, sum_by_same f g xs h.1, h.0)
 
 -- with no point before `later`, the walk stands there too
 pub stands_later : (tasks : List Task) (ps : List Point) (now later total : ℕ) → now ≤ later → Standing tasks ps now total
-    → All (λ p. later ≤ p.time) ps → Standing tasks ps later total
+    → AllByRecursion (λ p. later ≤ p.time) ps → Standing tasks ps later total
 stands_later tasks ps now later total l s h =
     record {
       once = s.once;
@@ -77,7 +77,7 @@ stands_later tasks ps now later total l s h =
 
 -- up to the first point the need is what was asked for
 pub need_before : (tasks : List Task) (ps : List Point) (now total x : ℕ) → Standing tasks ps now total → now ≤ x
-    → All (λ p. x < p.time) ps → need tasks x ≡ total
+    → AllByRecursion (λ p. x < p.time) ps → need tasks x ≡ total
 unfolding need
 need_before tasks ps now total x s l h =
     sym (s.once (λ i. demand (task_at tasks i) x))
@@ -133,7 +133,7 @@ first_waits tasks slots at total p i s v =
     subst (Waits tasks at) (get_or-take n slots 0 p i ∙ sym v)
     (All-get_or (Waits tasks at) (take n slots) 0 p (omega (arith, length-take-le n slots s.queue.0)) s.standing.waits)
 
-pub all_later : (t u : ℕ) (ps : List Point) → t ≤ u → All (λ (p : Point). u ≤ p.time) ps → All (λ (p : Point). t ≤ p.time) ps
+pub all_later : (t u : ℕ) (ps : List Point) → t ≤ u → AllByRecursion (λ (p : Point). u ≤ p.time) ps → AllByRecursion (λ (p : Point). t ≤ p.time) ps
 all_later t u ps l h = All-weaker (λ (p : Point). u ≤ p.time) (λ (p : Point). t ≤ p.time) (λ p k. omega arith) ps h
 
 -- the first point's place is taken by its row's next
@@ -170,13 +170,13 @@ taken tasks slots after at total p r i whole s v e told =
         }
 
 pub stands_from : (tasks : List Task) (slots : List Point) (now next later total : ℕ) → Stands tasks slots now total
-    → All (λ (p : Point). next ≤ p.time) (take (length tasks) slots) → now ≤ later → later ≤ next → Stands tasks slots later total
+    → AllByRecursion (λ (p : Point). next ≤ p.time) (take (length tasks) slots) → now ≤ later → later ≤ next → Stands tasks slots later total
 stands_from tasks slots now next later total s h a b =
     let n : ℕ = length tasks in
     record { queue = s.queue; standing = stands_later tasks (take n slots) now later total a s.standing (all_later later next (take n slots) b h) }
 
 pub need_from : (tasks : List Task) (slots : List Point) (at next total : ℕ) → Stands tasks slots (at + 1) total → need tasks at ≡ total
-    → All (λ (p : Point). next ≤ p.time) (take (length tasks) slots) → (t : ℕ) → at ≤ t → t < next → need tasks t ≡ total
+    → AllByRecursion (λ (p : Point). next ≤ p.time) (take (length tasks) slots) → (t : ℕ) → at ≤ t → t < next → need tasks t ≡ total
 need_from tasks slots at next total s e h t a b = go (cases_eq t at)
   where
     go : (t ≡ at) ⊎ (t ≡ at → ⊥) → need tasks t ≡ total
@@ -186,7 +186,7 @@ need_from tasks slots at next total s e h t a b = go (cases_eq t at)
 -- the first k tasks are in, each at its due tick
 pub record Partly (tasks : List Task) (points : List Point) (k : ℕ) : Type 0 where
   pub once : (f : ℕ → ℕ) → sum_by (λ (p : Point). f p.row) points ≡ sum_to k f
-  pub waits : All (Waits tasks 1) points
+  pub waits : AllByRecursion (Waits tasks 1) points
   pub asked : 0 ≡ sum_by (λ (p : Point). demand (task_at tasks p.row) (p.time - 1)) points
 
 pub partly_none : (tasks : List Task) → Partly tasks [] 0

@@ -6,7 +6,7 @@
 --   Standing   the points hold each row once, each waits from now on, and total is what was asked for before now
 --   Stands     the first slots, one for each row, are a queue of such points
 use Rattle.std.specs.Prelude.{◌≡◌, ℕ, ◌+◌, ◌-◌, ◌<◌, ◌≤◌, List, length, take, sum_by}
-use Rattle.std.specs.List.{AllByRecursion as All}
+use Rattle.std.specs.List.{AllByRecursion}
 use Rattle.queue.specs.Queue.{Queue}
 use Rattle.table.specs.declared.task.Task.{Task}
 use Rattle.table.specs.Tasks.{task_at, AllWhole, Bounded}
@@ -33,7 +33,7 @@ pub record Waits (tasks : List Task) (now : ℕ) (p : Point) : Type 0 where
 
 pub record Standing (tasks : List Task) (points : List Point) (now total : ℕ) : Type 0 where
   pub once : (f : ℕ → ℕ) → sum_by (λ p. f p.row) points ≡ sum_to (length tasks) f
-  pub waits : All (Waits tasks now) points
+  pub waits : AllByRecursion (Waits tasks now) points
   pub asked : total ≡ sum_by (λ p. demand (task_at tasks p.row) (p.time - 1)) points
 
 pub record Stands (tasks : List Task) (slots : List Point) (now total : ℕ) : Type 0 where

@@ -1,6 +1,6 @@
 //! The walk over the demand points in time order: at each, the need grows by the run of the row that it is of.
 ghost use Rattle.std.specs.Prelude.{◌≡◌, ◌+◌, ◌<◌, ◌≤◌, take, MatchResult, slice_index_or};
-ghost use Rattle.std.specs.List.{AllByRecursion as All};
+ghost use Rattle.std.specs.List.{AllByRecursion};
 ghost use Rattle.queue.specs.Queue.{Queue};
 ghost use Rattle.planner.specs.Demand.{need};
 ghost use Rattle.planner.specs.Margins.{LeastMargin, FirstFailure};
@@ -43,7 +43,7 @@ impl Walk {
     fn first(&self, count: usize) -> Point
         requires { (Queue sooner self.now.points count) × (1 ≤ count) }
         ensures value { result ≡ slice_index_or self.now.points 0 result }
-        ensures least { All (λ p. result.time ≤ p.time) (take count self.now.points) }
+        ensures least { AllByRecursion (λ p. result.time ≤ p.time) (take count self.now.points) }
     {
         match queue::peek(&self.points, count) {
             Some(first) => first,

@@ -4,7 +4,7 @@ use Rattle.std.specs.List.Sorted.{IsPermutation}
 use Rattle.std.proofs.lemmas.List.{length-take-le, length-append, length-set, get_or-take, drop-set-lt, get_or-set_other, take_all, take_at, take-append-le, take_more, take_more_set}
 use Rattle.std.proofs.lemmas.Slice.{drop-append-drop}
 use Rattle.std.proofs.lemmas.List.Sorted.{IsPermutation-sym, IsPermutation-trans, IsPermutation-cons, IsPermutation-to_front, IsPermutation-swap, length_permutation}
-use Rattle.std.specs.List.{ContainsAt as Has}
+use Rattle.std.specs.List.{ContainsAt}
 use Rattle.std.proofs.ByRecursion.{All-from_get_or, has_get_or}
 use Rattle.queue.specs.Order.{Linear}
 use Rattle.queue.specs.Queue.{Heaped, Least, First}
@@ -12,10 +12,10 @@ use Rattle.queue.specs.Sift.{Gap}
 use Rattle.queue.proofs.Heaps.{by, paired, top}
 
 module _ {X : Type 0} where
-  has_held : (xs : List X) (n i : ℕ) (x : X) → i < n → n ≤ length xs → x ≡ get_or xs i x → Has (take n xs) x
+  has_held : (xs : List X) (n i : ℕ) (x : X) → i < n → n ≤ length xs → x ≡ get_or xs i x → ContainsAt (take n xs) x
   has_held xs n i x b l e =
       let a : length (take n xs) ≡ n = length-take-le n xs l in
-      subst (Has (take n xs)) (get_or-take n xs i x b ∙ sym e) (has_get_or (take n xs) i x (omega arith))
+      subst (ContainsAt (take n xs)) (get_or-take n xs i x b ∙ sym e) (has_get_or (take n xs) i x (omega arith))
 
 module _ {X : Type 0} (before : X → X → Bool) (o : Linear before) where
   -- all but the element at j are those of a heap
@@ -107,7 +107,7 @@ module _ {X : Type 0} where
   pub rest_set : (xs ys : List X) (m n i : ℕ) (x : X) → n ≡ m → length ys ≡ m → i < n → drop n (ys ++ drop m (set xs i x)) ≡ drop n xs
   rest_set xs ys m n i x e l b = rest_back (set xs i x) ys m n e l ∙ drop-set-lt n xs i x b
 
-  pub not_held : (xs : List X) (n : ℕ) (x : X) → n ≤ length xs → ((k : ℕ) → k < n → get_or xs k x ≡ x → ⊥) → Has (take n xs) x → ⊥
+  pub not_held : (xs : List X) (n : ℕ) (x : X) → n ≤ length xs → ((k : ℕ) → k < n → get_or xs k x ≡ x → ⊥) → ContainsAt (take n xs) x → ⊥
   not_held xs n x l none (k, b, e) =
       let a : length (take n xs) ≡ n = length-take-le n xs l in
       none k (omega arith) (sym (get_or-take n xs k x (omega arith)) ∙ e x)

@@ -12,7 +12,7 @@
 --   Absent      there is no x to be taken out
 use Rattle.std.specs.Prelude.{◌≡◌, ℕ, ◌+◌, ◌/◌, ◌<◌, ◌≤◌, Bool, false, ◌⊎◌, List, ◌∷◌, length, take, drop, slice_index_or}
 use Rattle.std.specs.List.Sorted.{IsPermutation}
-use Rattle.std.specs.List.{ContainsAt as Has, AllByRecursion as All}
+use Rattle.std.specs.List.{ContainsAt, AllByRecursion}
 
 module _ {X : Type 0} (before : X → X → Bool) where
   -- no element comes before its parent, which for the one at k + 1 is at k / 2
@@ -23,14 +23,14 @@ module _ {X : Type 0} (before : X → X → Bool) where
   Queue xs n = (n ≤ length xs) × Heaped (take n xs)
 
   abbrev pub Least : X → List X → Type 0
-  Least x xs = All (λ y. before y x ≡ false) xs
+  Least x xs = AllByRecursion (λ y. before y x ≡ false) xs
 
   -- x stands first in the slice xs of which n places are held; in a queue that is the least
   pub record First (x : X) (xs : List X) (n : ℕ) : Type 0 where
     pub some : 1 ≤ n
     pub fits : n ≤ length xs
     pub value : x ≡ slice_index_or xs 0 x
-    pub held : Has (take n xs) x
+    pub held : ContainsAt (take n xs) x
     pub least : Queue xs n → Least x (take n xs)
 
   -- from m places of the slice ws to n of the slice xs
@@ -61,4 +61,4 @@ Vacant xs n = (n ≡ 0) ⊎ (length xs < n)
 
 -- x is not held, or more is held than the slice has places for
 abbrev pub Absent : {X : Type 0} → X → List X → ℕ → Type 0
-Absent x xs n = (length xs < n) ⊎ (Has (take n xs) x → ⊥)
+Absent x xs n = (length xs < n) ⊎ (ContainsAt (take n xs) x → ⊥)

@@ -8,7 +8,7 @@
 #![tactic(auto)]
 
 ghost use Rattle.std.specs.Prelude.{◌≡◌, ◌+◌, ◌-◌, ◌<◌, ◌≤◌, length, take, MatchOption, MatchResult, slice_index_or};
-ghost use Rattle.std.specs.List.{ContainsAt as Has};
+ghost use Rattle.std.specs.List.{ContainsAt};
 ghost use Rattle.queue.specs.Queue.{First, Entered, Left, Replaced, Vacant, Absent};
 
 use crate::order::Precedes;
@@ -85,7 +85,7 @@ pub fn remove<T: Precedes>(heap: &mut [T], len: usize, x: T) -> Option<usize>
 /// Where `x` is in the queue.
 fn position<T: Precedes>(heap: &[T], len: usize, x: T) -> Option<usize>
     requires { len ≤ length heap.now }
-    ensures { MatchOption result (Has (take len heap.now) x → ⊥) (λ i. (i < len) × (slice_index_or heap.now i x ≡ x)) }
+    ensures { MatchOption result (ContainsAt (take len heap.now) x → ⊥) (λ i. (i < len) × (slice_index_or heap.now i x ≡ x)) }
 {
     let mut i = 0;
     while i < len {

@@ -3,7 +3,7 @@
 use Rattle.std.proofs.Common.{◌≡◌, ℕ, ◌+◌, ◌-◌, ◌<◌, ◌≤◌, false, List, [], ◌∷◌, ◌++◌, map, length, Ok, Err, Result, sym, refl, ap, ◌∙◌, subst, ⊎_elim, append_assoc, append-nil, add-zero, add_assoc, zero-add, arith, le-ltb, lt-ltb}
 use native.Mathlib.Nat.{sub-zero}
 use Rattle.std.proofs.lemmas.List.{drop_at, length-append, length_push, map_push}
-use Rattle.std.specs.List.{AllByRecursion as All}
+use Rattle.std.specs.List.{AllByRecursion}
 use Rattle.refusal.specs.declared.cases.Position.{Position}
 use Rattle.refusal.specs.declared.cases.Refusal.{Refusal}
 use Rattle.refusal.specs.declared.cases.Refusal.TheVariants.{TextLength, LineForm, RowCount, RunAboveDue, DueAboveGap, GapLimit, NameTaken, CommonLimit, TextAfter, Overload, Overdemand, NoSuchRow, TooSoon, ClockEnd, NoOpenJob, NotBegun, WarmUpLimit}
@@ -86,7 +86,7 @@ follow_row count done row p after r held more w within fresh short =
     ∙ ap (λ m. rows_from (count - (length done + 1)) m (p + length row.line) after s) next
     ∙ ap (λ k. rows_from (count - k) (k + 2) (p + length row.line) after s) (sym size)
 
-follow : (todo done : List RowText) (count p : ℕ) (rest : List ℕ) (r : Reading) → Held done r → All Written todo → All (λ row. Within row.task) todo → Apart (done ++ todo) → ShortPeriod (tasks (done ++ todo)) → length (done ++ todo) ≤ count
+follow : (todo done : List RowText) (count p : ℕ) (rest : List ℕ) (r : Reading) → Held done r → AllByRecursion Written todo → AllByRecursion (λ row. Within row.task) todo → Apart (done ++ todo) → ShortPeriod (tasks (done ++ todo)) → length (done ++ todo) ≤ count
     → Followed count (rows_from (count - length done) (length done + 2) p (lines todo ++ rest) r) (done ++ todo) (p + length (lines todo)) rest
 follow [] done count p rest r held written within apart short few =
     let whole = rows_from (count - length done) (length done + 2) p rest r in

@@ -5,7 +5,7 @@ use Rattle.std.proofs.Common.{◌≡◌, ℕ, zero, suc, ◌+◌, ◌<◌, ◌�
 use Rattle.std.proofs.ByRecursion.{All-weaker}
 use Rattle.std.proofs.lemmas.List.{drop_more, drop_all}
 use Rattle.std.proofs.lemmas.Bool.Decides.{nat_tests}
-use Rattle.std.specs.List.{AllByRecursion as All}
+use Rattle.std.specs.List.{AllByRecursion}
 use Rattle.table.specs.Form.{mark}
 use Rattle.table.specs.Lines.{letter, a_name, exactly}
 use Rattle.table.specs.Scan.{span, word_size}
@@ -32,7 +32,7 @@ shared_apart xs ys i h k ne =
     rw (drop_more xs i 0 h, drop_more ys i 0 k, other) refl
 
 -- a part that ends only where a byte of the keyword could not stand has as much in common with it
-shared_span : (m : ℕ) (s : ℕ → Bool) (bs want : List ℕ) → All (λ c. s c ≡ true) want → length want ≤ m → shared (take (span m s bs) bs) want ≡ shared bs want
+shared_span : (m : ℕ) (s : ℕ → Bool) (bs want : List ℕ) → AllByRecursion (λ c. s c ≡ true) want → length want ≤ m → shared (take (span m s bs) bs) want ≡ shared bs want
 shared_span m s bs [] all few = shared_right (take (span m s bs) bs) [] refl ∙ sym (shared_right bs [] refl)
 shared_span zero s bs (w ∷ want) all few = absurd (omega arith)
 shared_span (suc m) s [] (w ∷ want) all few = refl

@@ -4,13 +4,13 @@
 -- no such line has.
 use Rattle.std.proofs.Common.{◌≡◌, ℕ, zero, suc, ◌<◌, ◌≤◌, Bool, true, false, List, [], ◌∷◌, ◌++◌, length, take, drop, sym, refl, ap, ◌∙◌, subst, true≢false, append_assoc, arith, take-append-drop, eq-eqb, eqb-true}
 use Rattle.std.proofs.lemmas.List.{take_at, drop_at, take-take}
-use Rattle.std.specs.List.{AllByRecursion as All}
+use Rattle.std.specs.List.{AllByRecursion}
 use Rattle.table.specs.Form.{Piece, mark, word, Form, nothing, a_mark, a_word, Begins, Stops, NoLine}
 use Rattle.table.specs.Scan.{Atom, one, upto, atoms, span, words_of, reaches, fitting}
 use Rattle.table.proofs.Forms.{Made, none, byte, enough, more, Lawful, lawful_rest, place_is_first, fits_is_made, span_none, made_is_fits}
 
 -- at most n bytes of a set
-stretched : (n : ℕ) (s : ℕ → Bool) (qs : List Atom) (w bs : List ℕ) → All (λ c. s c ≡ true) w → length w ≤ n → Made qs bs → Made (upto n s ∷ qs) (w ++ bs)
+stretched : (n : ℕ) (s : ℕ → Bool) (qs : List Atom) (w bs : List ℕ) → AllByRecursion (λ c. s c ≡ true) w → length w ≤ n → Made qs bs → Made (upto n s ∷ qs) (w ++ bs)
 stretched n s qs [] bs all few f = enough f
 stretched zero s qs (c ∷ w) bs all few f = absurd (omega arith)
 stretched (suc n) s qs (c ∷ w) bs all few f = more all.0 (stretched n s qs w bs all.1 (omega arith) f)
@@ -26,7 +26,7 @@ record Parted (n : ℕ) (s : ℕ → Bool) (qs : List Atom) (bs : List ℕ) : Ty
   front : List ℕ
   back : List ℕ
   whole : bs ≡ front ++ back
-  all : All (λ c. s c ≡ true) front
+  all : AllByRecursion (λ c. s c ≡ true) front
   few : length front ≤ n
   rest : Made qs back
 
@@ -52,7 +52,7 @@ made_form (word k ∷ ps) (b ∷ bs) (byte e f) =
     (w ∷ r.0, subst (λ xs. Form (word k ∷ ps) (b ∷ xs) (w ∷ r.0)) (sym p.whole) (a_word w (e, p.all, p.few) r.1))
 
 -- a word ends where the byte after it stands
-word_span : (n : ℕ) (s : ℕ → Bool) (qs : List Atom) (w bs rest : List ℕ) → Lawful (upto n s ∷ qs) → All (λ c. s c ≡ true) w → length w ≤ n → Made qs bs → span n s (w ++ (bs ++ rest)) ≡ length w
+word_span : (n : ℕ) (s : ℕ → Bool) (qs : List Atom) (w bs rest : List ℕ) → Lawful (upto n s ∷ qs) → AllByRecursion (λ c. s c ≡ true) w → length w ≤ n → Made qs bs → span n s (w ++ (bs ++ rest)) ≡ length w
 word_span n s qs [] bs rest l all few f = span_none n s qs bs rest l f
 word_span zero s qs (c ∷ w) bs rest l all few f = absurd (omega arith)
 word_span (suc n) s [] (c ∷ w) bs rest l all few f = absurd l

@@ -7,7 +7,7 @@
 --   Stops      the place of the first byte that no such line could have there, or the end of a text that stops short
 --   NoLine     no line of the form stands at the front
 use Rattle.std.specs.Prelude.{◌≡◌, ℕ, suc, ◌<◌, ◌≤◌, Bool, true, List, [], ◌∷◌, ◌++◌, length, take}
-use Rattle.std.specs.List.{AllByRecursion as All}
+use Rattle.std.specs.List.{AllByRecursion}
 
 pub record Class : Type 0 where
   pub first : ℕ → Bool
@@ -16,7 +16,7 @@ pub record Class : Type 0 where
 
 abbrev pub IsWord : Class → List ℕ → Type 0
 IsWord k [] = ⊥
-IsWord k (b ∷ rest) = (k.first b ≡ true) × All (λ c. k.next c ≡ true) rest × (length rest ≤ k.most)
+IsWord k (b ∷ rest) = (k.first b ≡ true) × AllByRecursion (λ c. k.next c ≡ true) rest × (length rest ≤ k.most)
 
 pub data Piece : Type 0 where
   mark : ℕ → Piece

@@ -2,7 +2,7 @@
 --   Past    the pieces stand at the front, with these words: what is left, and where
 --   Stuck   they do not: the place of the first byte that they do not allow
 use Rattle.std.specs.Prelude.{◌≡◌, ℕ, suc, ◌+◌, ◌^◌, ◌<◌, ◌≤◌, true, false, cond, List, [], ◌∷◌, ◌++◌, length, drop, ◌==◌}
-use Rattle.std.specs.List.{AllByRecursion as All}
+use Rattle.std.specs.List.{AllByRecursion}
 use Rattle.table.specs.Lines.{letter, decimal}
 use Rattle.table.specs.Form.{Piece}
 use Rattle.table.specs.Scan.{reaches, fitting, words_of}
@@ -38,7 +38,7 @@ MovesBy ps c value d = (digits : List ℕ) × (value ≡ decimal digits) × Move
 -- what a keyword may be: letters, no more than a word may have
 abbrev pub Title : List ℕ → Type 0
 Title [] = ⊥
-Title (b ∷ bs) = (letter b ≡ true) × All (λ c. letter c ≡ true) bs × (length bs ≤ 11)
+Title (b ∷ bs) = (letter b ≡ true) × AllByRecursion (λ c. letter c ≡ true) bs × (length bs ≤ 11)
 
 -- how many bytes at the front two texts have in common
 abbrev pub shared : List ℕ → List ℕ → ℕ

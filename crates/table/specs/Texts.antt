@@ -8,7 +8,7 @@
 --   Next        this row's line stands next, at this position
 --   Refuses     the text begins as a good text does, and the next check says no
 use Rattle.std.specs.Prelude.{◌≡◌, ℕ, ◌+◌, ◌<◌, ◌≤◌, ◌⊎◌, List, [], ◌∷◌, ◌++◌, map, length, ◌≢◌, slice_index_or}
-use Rattle.std.specs.List.{flat_map, AllByRecursion as All}
+use Rattle.std.specs.List.{flat_map, AllByRecursion}
 use Rattle.refusal.specs.declared.cases.Position.{Position}
 use Rattle.refusal.specs.declared.cases.Refusal.{Refusal}
 use Rattle.refusal.specs.declared.cases.Refusal.TheVariants.{TextLength, LineForm, RowCount, RunAboveDue, DueAboveGap, GapLimit, NameTaken, CommonLimit, TextAfter, Overload, Overdemand, NoSuchRow, TooSoon, ClockEnd, NoOpenJob, NotBegun, WarmUpLimit}
@@ -72,8 +72,8 @@ pub record Begun (text : List ℕ) (count : ℕ) (rows : List RowText) (place : 
   pub parts : text ≡ (first ++ lines rows) ++ rest
   pub begins : place ≡ place_after first rows
   pub few : length rows ≤ count
-  pub written : All Written rows
-  pub within : All (λ row. Within row.task) rows
+  pub written : AllByRecursion Written rows
+  pub within : AllByRecursion (λ row. Within row.task) rows
   pub apart : Apart rows
   pub short : ShortPeriod (tasks rows)
 

@@ -1,6 +1,6 @@
 -- Each point at `at` gives way to its row's next, which lies past it, so that fewer are left; then the total is the need.
 use Rattle.std.proofs.Common.{◌+◌, ◌*◌, ◌<◌, ◌≤◌, length, take, mul-le-mul_right, arith}
-use Rattle.std.specs.List.{AllByRecursion as All}
+use Rattle.std.specs.List.{AllByRecursion}
 use Rattle.std.proofs.ByRecursion.{All-weaker}
 use Rattle.std.proofs.lemmas.List.{length-take}
 use Rattle.planner.specs.declared.point.Point.{Point}
@@ -50,7 +50,7 @@ returns c =
     let tasks = c.args.tasks.now in
     let w = first_waits tasks l.self.points c.args.at l.self.total l.first c.requires.readable.some l.invariant.0 l.invariant.1 in
     let past : c.args.at < l.first.time = omega (arith, w.ahead, c.loop-first-test.false) in
-    let after : All (λ (p : Point). c.args.at + 1 ≤ p.time) (take (length tasks) l.self.points) = all_later _ _ _ (omega arith) l.invariant.2 in
+    let after : AllByRecursion (λ (p : Point). c.args.at + 1 ≤ p.time) (take (length tasks) l.self.points) = all_later _ _ _ (omega arith) l.invariant.2 in
     record {
       stands = record { queue = l.invariant.0.queue; standing = stands_later _ _ c.args.at (c.args.at + 1) _ (omega arith) l.invariant.0.standing after };
       value = need_before _ _ c.args.at _ c.args.at l.invariant.0.standing (omega arith) (All-weaker _ _ (λ p h. omega arith) _ after);
