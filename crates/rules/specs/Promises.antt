@@ -90,6 +90,6 @@ abbrev pub Goes : Rules → View → Call → Type 0
 Goes R v call = (e : Entry) × (w : View) × Step R v e w × (call_of e ≡ call)
 
 -- The rules answer every call in every view that is reached, as long as the alarm has a choice.
-abbrev pub Goes_on : Type 0
-Goes_on = (R : Rules) → AllWhole R.tasks → 1 ≤ R.grain
+abbrev pub GoesOn : Type 0
+GoesOn = (R : Rules) → AllWhole R.tasks → 1 ≤ R.grain
     → (log : List Entry) (v : View) → Runs R (fresh (count R)) log v → (call : Call) → Goes R v call

@@ -7,7 +7,7 @@
 //! keeps the promises, every call has a step, and the words of the promises speak of every job, sleep and waking.
 #![tactic(auto)]
 
-ghost use Rattle.rules.specs.Promises.{PromisesKept, Goes_on};
+ghost use Rattle.rules.specs.Promises.{PromisesKept, GoesOn};
 ghost use Rattle.rules.specs.Exact.{OpenExact, BeginsAsleep, AsleepBegins, WakesExact, AwakeBusy, SomePlan};
 
 pub mod calls;
@@ -22,7 +22,7 @@ pub fn promises_stand() -> bool
 
 /// In every view that is reached, each call has an answer by the rules.
 pub fn rules_go_on() -> bool
-    ensures answered { Goes_on }
+    ensures answered { GoesOn }
 {
     true
 }
