@@ -1,7 +1,7 @@
 -- How a top-up sets the alarm below again and again. Assumes nothing.
 --   top_up_reach   the longest wait
---   Resumed      a pass of a top-up leaves it a rest, and the alarm below goes from x to y
---   Covers       the alarm below is not set past what is left
+--   Resumed        a pass of a top-up leaves it a rest, and the alarm below goes from x to y
+--   Covers         the alarm below is not set past what is left
 use Rattle.std.specs.Prelude.{◌≡◌, ℕ, ◌≤◌, Bool, true, false, Some, None, Option}
 use Rattle.alarm.specs.declared.base.Alarm.{Ghosts}
 use Rattle.alarm.specs.Effects.{SetTo, Passed}

@@ -1,8 +1,8 @@
 -- A ramp's warm-up, and how its wait comes from that of the alarm below. Assumes nothing.
 --   warm_up_limit   the longest warm-up
---   warmed        the wait of a ramp over an alarm that chose the wait `b`
---   Ramped        a ramp that is set to n waits for m, and the alarm below goes from x to y
---   Level         how the ramp's ticks left stand to what the alarm below has left
+--   warmed          the wait of a ramp over an alarm that chose the wait `b`
+--   Ramped          a ramp that is set to n waits for m, and the alarm below goes from x to y
+--   Level           how the ramp's ticks left stand to what the alarm below has left
 use Rattle.std.specs.Prelude.{◌≡◌, ℕ, ◌+◌, ◌-◌, ◌<◌, ◌≤◌, cond, Some, None, Option, ◌==◌}
 use Rattle.alarm.specs.declared.base.Alarm.{Ghosts}
 use Rattle.alarm.specs.Effects.{SetTo, Cleared}

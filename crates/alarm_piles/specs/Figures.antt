@@ -7,9 +7,9 @@ use Rattle.alarm.specs.declared.counter.Counter.{Counter}
 use Rattle.alarm.specs.declared.divider.Divider.{Divider}
 use Rattle.alarm.specs.declared.ramp.Ramp.{Ramp}
 use Rattle.alarm.specs.declared.topup.TopUp.{TopUp}
-use Rattle.alarm.specs.contracts.counter.Counter as the-counter
+use Rattle.alarm.specs.contracts.counter.Counter as the_counter
 use Rattle.alarm.specs.contracts.counter.CounterAlarm.TheImpl as counter
-use Rattle.alarm.specs.contracts.divider.Divider as the-divider
+use Rattle.alarm.specs.contracts.divider.Divider as the_divider
 use Rattle.alarm.specs.contracts.divider.DividerAlarm.TheImpl as divider
 use Rattle.alarm.specs.contracts.ramp.RampAlarm.TheImpl as ramp
 use Rattle.alarm.specs.contracts.topup.TopUpAlarm.TheImpl as topup
@@ -26,13 +26,13 @@ RingsAt {S} alarm At n at =
     → (i : ℕ) → i < at → rings (alarm.meaning (run i)) ≡ (i + 1 == at)
 
 abbrev pub ramp_over_counter : Ghosts (Ramp Counter)
-ramp_over_counter = ramp.ghosts the-counter.the_row counter.ghosts counter.dict
+ramp_over_counter = ramp.ghosts the_counter.the_row counter.ghosts counter.dict
 
 abbrev pub ramp_over_divider : Ghosts (Ramp Divider)
-ramp_over_divider = ramp.ghosts the-divider.the_row divider.ghosts divider.dict
+ramp_over_divider = ramp.ghosts the_divider.the_row divider.ghosts divider.dict
 
 abbrev pub top_up_over_divider : Ghosts (TopUp Divider)
-top_up_over_divider = topup.ghosts the-divider.the_row divider.ghosts divider.dict
+top_up_over_divider = topup.ghosts the_divider.the_row divider.ghosts divider.dict
 
 pub record Figures : Type 0 where
   pub counter_set_70 : Waits counter.ghosts (λ _. Unit {0}) 70 70

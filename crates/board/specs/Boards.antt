@@ -1,14 +1,14 @@
 -- A board over an alarm, and what its calls do. Assumes nothing.
 --   view_of, rules_of   what is seen of a board, and the rules that it goes by
---   answer_for         what a call answered, from what its function returned
---   Asking            what becomes of the alarm in a release
---   Calmed            what becomes of it when a job may have closed
---   Handles           what a step does to the alarm, by the alarm's own effects
---   Does              a call leads from one board to another: one step of the rules, with its answer
---   Acts              a list of calls leads from one board to another, with these answers
---   Built             a new board over a plan and an alarm, which it cleared
---   Replays           a list of calls, made on a new board: what they answer, by the alarm's own effects, and the promise
---   Arms              the part of a release that concerns the alarm
+--   answer_for          what a call answered, from what its function returned
+--   Asking              what becomes of the alarm in a release
+--   Calmed              what becomes of it when a job may have closed
+--   Handles             what a step does to the alarm, by the alarm's own effects
+--   Does                a call leads from one board to another: one step of the rules, with its answer
+--   Acts                a list of calls leads from one board to another, with these answers
+--   Built               a new board over a plan and an alarm, which it cleared
+--   Replays             a list of calls, made on a new board: what they answer, by the alarm's own effects, and the promise
+--   Arms                the part of a release that concerns the alarm
 use Rattle.std.specs.Prelude.{◌≡◌, ℕ, ◌⊎◌, List, [], ◌∷◌, length, Some, None, Ok, Err, Option, Result}
 use Rattle.alarm.specs.declared.base.Alarm.{Ghosts}
 use Rattle.alarm.specs.Effects.{SetTo, Cleared, Passed}

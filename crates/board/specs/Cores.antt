@@ -1,9 +1,9 @@
 -- What an event does to a board apart from its alarm. Assumes nothing.
---   slots_of   the slots of the plan's rows
---   view      what is seen of the board when its alarm means a
---   rules_for  the rules of a board over a plan and an alarm with this reach and grain
---   Opens, Serves, Dozes, Shuts   a job opens, one gets a tick, a tick is slept through, a job closes early
---   Settled   with no job open the board is asleep; otherwise its mode is the given one
+--   slots_of                     the slots of the plan's rows
+--   view                         what is seen of the board when its alarm means a
+--   rules_for                    the rules of a board over a plan and an alarm with this reach and grain
+--   Opens, Serves, Dozes, Shuts  a job opens, one gets a tick, a tick is slept through, a job closes early
+--   Settled                      with no job open the board is asleep; otherwise its mode is the given one
 use Rattle.std.specs.Prelude.{◌≡◌, ℕ, ◌+◌, ◌<◌, Bool, ◌⊎◌, List, length, take, replicate, Some, None, Option, slice_set}
 use Rattle.table.specs.Tasks.{task_at}
 use Rattle.planner.specs.declared.plan.Plan.{Plan}

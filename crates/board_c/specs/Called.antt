@@ -1,10 +1,10 @@
 -- What a list of calls for C answers and writes. Assumes nothing.
---   Answered    the calls were made on a new board over an alarm, and what each answered stands in its place
---   Over        the same over an alarm, or over it under a ramp, if its warm-up is within its limit
---   Piled       the same over the alarm of a number: a counter, a divider, or a top-up over a divider
---   no_such_alarm, too_few_places   what is answered for another alarm, and for more calls than places
---   Unmade      why no call was made
---   Called      the whole promise
+--   Answered                       the calls were made on a new board over an alarm, and what each answered stands in its place
+--   Over                           the same over an alarm, or over it under a ramp, if its warm-up is within its limit
+--   Piled                          the same over the alarm of a number: a counter, a divider, or a top-up over a divider
+--   no_such_alarm, too_few_places  what is answered for another alarm, and for more calls than places
+--   Unmade                         why no call was made
+--   Called                         the whole promise
 use Rattle.std.specs.Prelude.{◌≡◌, ℕ, ◌<◌, ◌≤◌, ◌⊎◌, List, map, length, take, drop, Ok, Err}
 use Rattle.refusal.specs.declared.cases.Refusal.{Refusal}
 use Rattle.refusal.specs.declared.cases.Refusal.TheVariants.{WarmUpLimit}
@@ -14,12 +14,12 @@ use Rattle.alarm.specs.declared.counter.Counter.{Counter}
 use Rattle.alarm.specs.declared.divider.Divider.{Divider}
 use Rattle.alarm.specs.declared.ramp.Ramp.{Ramp}
 use Rattle.alarm.specs.declared.topup.TopUp.{TopUp}
-use Rattle.alarm.specs.contracts.counter.Counter as the-counter
+use Rattle.alarm.specs.contracts.counter.Counter as the_counter
 use Rattle.alarm.specs.contracts.counter.CounterAlarm.TheImpl as counter
-use Rattle.alarm.specs.contracts.divider.Divider as the-divider
+use Rattle.alarm.specs.contracts.divider.Divider as the_divider
 use Rattle.alarm.specs.contracts.divider.DividerAlarm.TheImpl as divider
 use Rattle.alarm.specs.contracts.ramp.RampAlarm.TheImpl as ramp
-use Rattle.alarm.specs.contracts.topup.TopUp as the-topup
+use Rattle.alarm.specs.contracts.topup.TopUp as the_topup
 use Rattle.alarm.specs.contracts.topup.TopUpAlarm.TheImpl as topup
 use Rattle.alarm.specs.Effects.{Cleared}
 use Rattle.alarm.specs.Warming.{warm_up_limit}
@@ -50,16 +50,16 @@ Over {X} below above plan x warm codes before number after =
     ⊎ ((number ≡ number_of WarmUpLimit) × (warm_up_limit < warm) × (after ≡ before)))
 
 abbrev pub ramp_over_counter : Ghosts (Ramp Counter)
-ramp_over_counter = ramp.ghosts the-counter.the_row counter.ghosts counter.dict
+ramp_over_counter = ramp.ghosts the_counter.the_row counter.ghosts counter.dict
 
 abbrev pub ramp_over_divider : Ghosts (Ramp Divider)
-ramp_over_divider = ramp.ghosts the-divider.the_row divider.ghosts divider.dict
+ramp_over_divider = ramp.ghosts the_divider.the_row divider.ghosts divider.dict
 
 abbrev pub top_up_over_divider : Ghosts (TopUp Divider)
-top_up_over_divider = topup.ghosts the-divider.the_row divider.ghosts divider.dict
+top_up_over_divider = topup.ghosts the_divider.the_row divider.ghosts divider.dict
 
 abbrev pub ramp_over_top_up : Ghosts (Ramp (TopUp Divider))
-ramp_over_top_up = ramp.ghosts (the-topup.the_row the-divider.the_row) top_up_over_divider (topup.dict the-divider.the_row divider.ghosts divider.dict)
+ramp_over_top_up = ramp.ghosts (the_topup.the_row the_divider.the_row) top_up_over_divider (topup.dict the_divider.the_row divider.ghosts divider.dict)
 
 -- a divider is at phase 0
 abbrev pub Piled : ℕ → Plan → ℕ → List ℕ → List AnswerRecord → ℕ → List AnswerRecord → Type 0

@@ -31,7 +31,7 @@ const TOO_FEW_PLACES: u32 = 101;
 /// Makes the calls on a new board, and writes what each answered.
 fn answer_all<T: Alarm + Drop>(plan: Plan, alarm: T, calls: &[u64], answers: &mut [AnswerRecord])
     requires { length calls.now ≤ length answers.now }
-    ensures { Answered T.Alarm plan alarm calls.now answers.entry.now answers.exit.now }
+    ensures { Answered T.Alarm plan alarm calls.now answers.old answers.new }
 {
     let mut board = Board::new(plan, alarm);
     for i in 0..calls.len() {
@@ -40,7 +40,7 @@ fn answer_all<T: Alarm + Drop>(plan: Plan, alarm: T, calls: &[u64], answers: &mu
 }
 
 /// The same over the alarm under a ramp, unless the warm-up is 0. What a ramp promises is the same however the calls of the
-/// alarm below are found (`calls-of`).
+/// alarm below are found (`calls_found`).
 fn answer_over<T: Alarm + Drop>(
     plan: Plan,
     alarm: T,
@@ -49,7 +49,7 @@ fn answer_over<T: Alarm + Drop>(
     answers: &mut [AnswerRecord],
 ) -> u32
     requires { length calls.now ≤ length answers.now }
-    ensures { (calls-of : Dict) → Over T.Alarm (ramp_over T.row T.Alarm calls-of) plan alarm warm calls.now answers.entry.now result answers.exit.now }
+    ensures { (calls_found : Dict) → Over T.Alarm (ramp_over T.row T.Alarm calls_found) plan alarm warm calls.now answers.old result answers.new }
 {
     if warm == 0 {
         answer_all(plan, alarm, calls, answers);
@@ -76,7 +76,7 @@ pub extern "C" fn bolzighes_calls(
     calls: &[u64],
     answers: &mut [AnswerRecord],
 ) -> u32
-    ensures { Called text.now alarm warm calls.now answers.entry.now result answers.exit.now }
+    ensures { Called text.now alarm warm calls.now answers.old result answers.new }
 {
     if answers.len() < calls.len() {
         return TOO_FEW_PLACES;

@@ -5,7 +5,7 @@ use Rattle.std.proofs.Common.{◌≡◌, ℕ, ◌-◌, ◌<◌, ◌≤◌, min, 
 use Rattle.std.proofs.lemmas.Bool.{cases_lt, cond-true, cond-false, le-leb, lt-leb}
 use Rattle.alarm.specs.declared.base.Alarm.{Ghosts}
 use Rattle.alarm.specs.declared.divider.Divider.{Divider}
-use Rattle.alarm.specs.contracts.divider.DividerAlarm.TheImpl as divider-alarm
+use Rattle.alarm.specs.contracts.divider.DividerAlarm.TheImpl as divider_alarm
 use Rattle.alarm.specs.Boundaries.{divider_reach}
 use Rattle.alarm.specs.Effects.{SetTo}
 use Rattle.alarm.specs.Meaning.{waiting}
@@ -14,7 +14,7 @@ use Rattle.figures.specs.Piles.{Pile, Pile.counter, Pile.divider, Pile.ramp, Pil
 use Rattle.figures.proofs.Single.{nearest_is_one}
 use Rattle.figures.proofs.Passing.{rings_after}
 
-divider_chooses : (x y : Divider) (n m : ℕ) → SetTo divider-alarm.ghosts x n m y → m ≡ last_boundary x.phase (min n divider_reach)
+divider_chooses : (x y : Divider) (n m : ℕ) → SetTo divider_alarm.ghosts x n m y → m ≡ last_boundary x.phase (min n divider_reach)
 divider_chooses x y n m s = nearest_is_one x.phase (min n divider_reach) m x.turning (omega arith) s.5.0
 
 -- a ramp over an alarm that has one wait, f k where it is set to k

@@ -1,7 +1,7 @@
 -- One worked figure: what it says, and a test that computes whether it passes. Assumes nothing.
---   Case         a figure of one of the kinds
---   Holds        what it says, by the definitions that the contracts cite
---   passes       the test
+--   Case        a figure of one of the kinds
+--   Holds       what it says, by the definitions that the contracts cite
+--   passes      the test
 --   TestTells   what passes the test holds
 use Rattle.std.specs.Prelude.{◌≡◌, ℕ, Bool, true, ◌&&◌, List, [], ◌∷◌, ◌==◌}
 use Rattle.std.specs.Str.{bytes_eq}

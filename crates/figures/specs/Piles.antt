@@ -1,23 +1,23 @@
 -- An alarm's figure: the wait that a pile of kinds chooses, and the pass at which it rings. Assumes nothing.
---   Pile      a pile of kinds, with what decides its wait: a divider's phase, a ramp's warm-up
---   State     what the code keeps of such a pile
---   ghosts_of  what its calls promise
---   At        the state has that phase and that warm-up
---   wait_of    the wait that it chooses, computed
---   Waits     set to so many, it waits for so many: the effects of its calls allow no other wait
---   RingsAt   set to so many, it rings at that pass, and at none before
+--   Pile        a pile of kinds, with what decides its wait: a divider's phase, a ramp's warm-up
+--   State       what the code keeps of such a pile
+--   ghosts_of   what its calls promise
+--   At          the state has that phase and that warm-up
+--   wait_of     the wait that it chooses, computed
+--   Waits       set to so many, it waits for so many: the effects of its calls allow no other wait
+--   RingsAt     set to so many, it rings at that pass, and at none before
 use Rattle.std.specs.Prelude.{◌≡◌, ℕ, ◌+◌, ◌-◌, ◌*◌, ◌/◌, ◌<◌, min, cond, ◌==◌, nat_le}
 use Rattle.std.specs.Borrow.{RattleType}
 use mir.Syntax.{Dict}
 use Rattle.alarm.specs.declared.base.Alarm.{Ghosts}
-use Rattle.alarm.specs.contracts.counter.Counter as the-counter
-use Rattle.alarm.specs.contracts.counter.CounterAlarm.TheImpl as counter-alarm
-use Rattle.alarm.specs.contracts.divider.Divider as the-divider
-use Rattle.alarm.specs.contracts.divider.DividerAlarm.TheImpl as divider-alarm
-use Rattle.alarm.specs.contracts.ramp.Ramp as the-ramp
-use Rattle.alarm.specs.contracts.ramp.RampAlarm.TheImpl as ramp-alarm
-use Rattle.alarm.specs.contracts.topup.TopUp as the-top-up
-use Rattle.alarm.specs.contracts.topup.TopUpAlarm.TheImpl as top-up-alarm
+use Rattle.alarm.specs.contracts.counter.Counter as the_counter
+use Rattle.alarm.specs.contracts.counter.CounterAlarm.TheImpl as counter_alarm
+use Rattle.alarm.specs.contracts.divider.Divider as the_divider
+use Rattle.alarm.specs.contracts.divider.DividerAlarm.TheImpl as divider_alarm
+use Rattle.alarm.specs.contracts.ramp.Ramp as the_ramp
+use Rattle.alarm.specs.contracts.ramp.RampAlarm.TheImpl as ramp_alarm
+use Rattle.alarm.specs.contracts.topup.TopUp as the_top_up
+use Rattle.alarm.specs.contracts.topup.TopUpAlarm.TheImpl as top_up_alarm
 use Rattle.alarm.specs.Boundaries.{period, divider_reach}
 use Rattle.alarm.specs.Counting.{counter_reach}
 use Rattle.alarm.specs.Effects.{SetTo, Passed}
@@ -33,25 +33,25 @@ pub data Pile : Type 0 where
 
 -- the pile as a type of the code
 abbrev pub type_of : Pile → RattleType
-type_of counter = the-counter.the_row
-type_of (divider phase) = the-divider.the_row
-type_of (ramp warm below) = the-ramp.the_row (type_of below)
-type_of (top_up below) = the-top-up.the_row (type_of below)
+type_of counter = the_counter.the_row
+type_of (divider phase) = the_divider.the_row
+type_of (ramp warm below) = the_ramp.the_row (type_of below)
+type_of (top_up below) = the_top_up.the_row (type_of below)
 
 abbrev pub State : Pile → Type 0
 State pile = (type_of pile).Denot
 
 -- what its calls promise, and the code's table of them
 abbrev pub alarm_of : (pile : Pile) → Ghosts (State pile) × Dict
-alarm_of counter = (counter-alarm.ghosts, counter-alarm.dict)
-alarm_of (divider phase) = (divider-alarm.ghosts, divider-alarm.dict)
+alarm_of counter = (counter_alarm.ghosts, counter_alarm.dict)
+alarm_of (divider phase) = (divider_alarm.ghosts, divider_alarm.dict)
 alarm_of (ramp warm below) = (
-  ramp-alarm.ghosts (type_of below) (alarm_of below).0 (alarm_of below).1,
-  ramp-alarm.dict (type_of below) (alarm_of below).0 (alarm_of below).1,
+  ramp_alarm.ghosts (type_of below) (alarm_of below).0 (alarm_of below).1,
+  ramp_alarm.dict (type_of below) (alarm_of below).0 (alarm_of below).1,
 )
 alarm_of (top_up below) = (
-  top-up-alarm.ghosts (type_of below) (alarm_of below).0 (alarm_of below).1,
-  top-up-alarm.dict (type_of below) (alarm_of below).0 (alarm_of below).1,
+  top_up_alarm.ghosts (type_of below) (alarm_of below).0 (alarm_of below).1,
+  top_up_alarm.dict (type_of below) (alarm_of below).0 (alarm_of below).1,
 )
 
 abbrev pub ghosts_of : (pile : Pile) → Ghosts (State pile)

@@ -1,8 +1,8 @@
 -- What the promises speak of is there: a plan, a served release, an ended sleep, longer sleeps, and a board that wakes,
 -- falls asleep and comes to its clock's end. So none of them holds only because nothing meets its premises. Assumes nothing.
 --   GoesBy       after a release on a new board any number of ticks may follow, for every table, row and alarm
---   waking_log     the calls of the example in docs/board.md, up to the ring
---   Premises      the witnesses, each named after the part of a promise that it is for
+--   waking_log   the calls of the example in docs/board.md, up to the ring
+--   Premises     the witnesses, each named after the part of a promise that it is for
 use Rattle.std.specs.Prelude.{◌≡◌, ℕ, ◌<◌, ◌≤◌, true, false, List, [], ◌∷◌, length, Some, None, Option}
 use Rattle.refusal.specs.declared.cases.Refusal.TheVariants.{ClockEnd}
 use Rattle.table.specs.Tasks.{AllWhole}

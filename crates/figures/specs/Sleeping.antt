@@ -2,9 +2,9 @@
 --   Leads      the calls, made on a new board over an exact alarm, are accepted and lead to that many ticks left
 --   Quietly    releases that are accepted and ticks in which nothing runs or rings
 -- and the rules of a sleeping board over an exact alarm, computed, which has no choice:
---   fits       the board sleeps, and the call is a release or a tick that is accepted
---   entry_for   what the log then has of the call
---   view_after  what is then seen of the board; where `fits` says no, both mean nothing
+--   fits         the board sleeps, and the call is a release or a tick that is accepted
+--   entry_for    what the log then has of the call
+--   view_after   what is then seen of the board; where `fits` says no, both mean nothing
 use Rattle.std.specs.Prelude.{◌≡◌, ℕ, ◌+◌, min, Bool, true, false, cond, not, ◌&&◌, List, [], ◌∷◌, Some, None, Option, ◌==◌, nat_le, nat_lt, slice_set}
 use Rattle.alarm.specs.Meaning.{waiting, onward, rings}
 use Rattle.rules.specs.declared.slots.Mode.{Mode}

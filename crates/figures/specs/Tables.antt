@@ -2,7 +2,7 @@
 --   Quoted     the tasks are accepted with this common period, this load and these sleeps
 --   Declined   the tasks, with this common period, are refused with this number and this value
 --   Nearby     the smallest margin of a row's windows that are shorter than its due and gap together
---   by_share    the sleeps that a rule by the tasks' share of time would give, where each job is due with the next release
+--   by_share   the sleeps that a rule by the tasks' share of time would give, where each job is due with the next release
 -- and tests for them, which only compute. The last two are rules that planners have used, and are not ours.
 use Rattle.std.specs.Prelude.{◌≡◌, ℕ, ◌+◌, ◌-◌, ◌*◌, ◌/◌, Bool, true, false, ◌&&◌, List, [], ◌∷◌, length, Ok, Err, Result, ◌==◌, nat_le, nat_lt}
 use Rattle.std.specs.Str.{bytes_eq}

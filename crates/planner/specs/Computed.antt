@@ -1,9 +1,9 @@
 -- The answer to a table of these tasks, as a computation by the rules. Assumes nothing.
---   first_failure tasks limit    the shortest window of 1 to limit ticks that demands more than it has
---   least_margin tasks from n    the smallest margin of the windows of from to from + n ticks
---   sleep_list tasks h           each row's smallest margin, of the windows of one period from its due on
---   shortest_of sleeps           the smallest number of a list, none of no numbers
---   computed tasks h            the load is asked first, then the windows of one period; h is the common period
+--   first_failure tasks limit  the shortest window of 1 to limit ticks that demands more than it has
+--   least_margin tasks from n  the smallest margin of the windows of from to from + n ticks
+--   sleep_list tasks h         each row's smallest margin, of the windows of one period from its due on
+--   shortest_of sleeps         the smallest number of a list, none of no numbers
+--   computed tasks h           the load is asked first, then the windows of one period; h is the common period
 -- A margin is computed as a difference, which stops at 0; the sleeps are asked for only where no margin lies below it.
 use Rattle.std.specs.Prelude.{ℕ, zero, suc, ◌+◌, ◌-◌, min, cond, List, [], ◌∷◌, map, Some, None, Ok, Err, Option, Result, nat_lt}
 use Rattle.refusal.specs.declared.cases.Refusal.{Refusal}

@@ -1,8 +1,8 @@
 -- A plan, by what can be read from it. Assumes nothing.
 --   planned     its tasks, in the order of their rows
---   sleeps_of    their sleeps, row by row
---   period_of    their common period, 1 where there are none
---   load_of      what they ask for in it
+--   sleeps_of   their sleeps, row by row
+--   period_of   their common period, 1 where there are none
+--   load_of     what they ask for in it
 --   Empty       the plan of no tasks
 --   AllSleeps   each row has its sleep
 --   Shortest    the smallest number of a list

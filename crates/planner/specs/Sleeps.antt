@@ -1,9 +1,9 @@
 -- The sleeps of all rows of a table, as a list. Assumes nothing.
 --   sleep_at   the sleep of a row, rows counting from 0
---   MetNear   some window has room for the sleep and no more: one of the first common period h from the due on
---   Rested    every window from a row's due upward has room for the row's sleep
---   Tight     and some window near the due has room for no more
---   Lowered   the rows whose due is at most `from` have their sleeps lowered to `least`, and the others keep theirs
+--   MetNear    some window has room for the sleep and no more: one of the first common period h from the due on
+--   Rested     every window from a row's due upward has room for the row's sleep
+--   Tight      and some window near the due has room for no more
+--   Lowered    the rows whose due is at most `from` have their sleeps lowered to `least`, and the others keep theirs
 -- Rested and Tight together say that each row has its sleep (IsSleep); they stand apart so that a plan's type can hold
 -- them, where Tight says only that such a window is there.
 use Rattle.std.specs.Prelude.{◌≡◌, ℕ, ◌+◌, ◌<◌, ◌≤◌, min, List, length, slice_index}

@@ -1,6 +1,6 @@
 -- What is answered where a text is to be planned. Assumes nothing.
 --   answer_to   the sleeps that the text's rows get, or the first check that says no: the reader's, then the planner's
---   Filled     the whole promise: what the answer and the plan are, by what the text is
+--   Filled      the whole promise: what the answer and the plan are, by what the text is
 use Rattle.std.specs.Prelude.{◌≡◌, ℕ, ◌⊎◌, List, Ok, Err, Result, MatchResult}
 use Rattle.refusal.specs.declared.cases.Refusal.{Refusal}
 use Rattle.table.specs.Tasks.{LeastCommon}

@@ -1,8 +1,8 @@
 -- The bytes that are printed for a table's text. Assumes nothing.
---   plan_text      (plan 3 (load 106) (common 112)) and a line end
---   sleep_text     (sleep head 4) and a line end; sleep_texts those of all rows
---   shortest_text  (shortest 4) and a line end
---   printed       the plan of an accepted text, or the record of its refusal
+--   plan_text       (plan 3 (load 106) (common 112)) and a line end
+--   sleep_text      (sleep head 4) and a line end; sleep_texts those of all rows
+--   shortest_text   (shortest 4) and a line end
+--   printed         the plan of an accepted text, or the record of its refusal
 use Rattle.std.specs.Prelude.{◌≡◌, ℕ, List, [], ◌∷◌, ◌++◌, length, Some, None, Ok, Err, codes, decimal, Option, Result}
 use Rattle.refusal.specs.Printed.{record_text}
 use Rattle.refusal.specs.declared.cases.Refusal.{Refusal}

@@ -1,6 +1,6 @@
 -- The sentence by which a refusal is told to a person. Assumes nothing.
 --   reason_of   what is wrong, in a few words
---   sentence   with the line and the byte, or the value, where the refusal names one
+--   sentence    with the line and the byte, or the value, where the refusal names one
 use Rattle.std.specs.Prelude.{ℕ, cond, List, ◌++◌, codes, decimal, nat_lt}
 use Rattle.refusal.specs.declared.cases.Refusal.{Refusal}
 use Rattle.refusal.specs.declared.cases.Refusal.TheVariants.{TextLength, LineForm, RowCount, RunAboveDue, DueAboveGap, GapLimit, NameTaken, CommonLimit, TextAfter, Overload, Overdemand, NoSuchRow, TooSoon, ClockEnd, NoOpenJob, NotBegun, WarmUpLimit}

@@ -1,13 +1,13 @@
 -- What can be told from a log alone: the calls on a board since it was new, what they answered, and the waits that its
 -- alarm answered. Refused calls and reports count for nothing. Assumes nothing.
 --   is_tick, is_run, is_release, is_done, is_waking, is_refused   1 for an entry of that kind, else 0
---   tally, ticks     how many entries of a kind, and how many ticks, a log has
+--   tally, ticks      how many entries of a kind, and how many ticks, a log has
 --   up_to n           the shortest part from the start that has n ticks
 --   since_release     what follows the first release
---   Unserved, Open   a job is open from its release until its row has run in as many ticks as its run, or was done
---   Emptied, Begins  a sleep begins with the new board, and with each tick or done that closes the only open job
---   Ends             it ends with the next tick that rang, or the next release to which the alarm answered 0
---   Missed           a job was open when the clock reached its due tick
+--   Unserved, Open    a job is open from its release until its row has run in as many ticks as its run, or was done
+--   Emptied, Begins   a sleep begins with the new board, and with each tick or done that closes the only open job
+--   Ends              it ends with the next tick that rang, or the next release to which the alarm answered 0
+--   Missed            a job was open when the clock reached its due tick
 --   calls_of          the calls that were made
 --   answers_of        what they answered
 use Rattle.std.specs.Prelude.{◌≡◌, ℕ, zero, suc, ◌+◌, ◌<◌, Bool, true, false, ◌⊎◌, List, [], ◌∷◌, ◌++◌, Some, None, Option, ◌==◌}

@@ -1,10 +1,10 @@
 -- What a board promises, told by its log alone. Assumes nothing.
---   DueKept      no due tick is missed
---   SleepKept    no sleep is cut short
---   NoLonger     no longer sleeps would do
---   Promise       the three together, of one log
---   Promised      whatever calls are made from a view on, in whatever order, their log keeps the promise
---   Replayed      the answers are those of a run from a new board, whose log keeps the promise
+--   DueKept     no due tick is missed
+--   SleepKept   no sleep is cut short
+--   NoLonger    no longer sleeps would do
+--   Promise     the three together, of one log
+--   Promised    whatever calls are made from a view on, in whatever order, their log keeps the promise
+--   Replayed    the answers are those of a run from a new board, whose log keeps the promise
 use Rattle.std.specs.Prelude.{◌≡◌, ℕ, ◌+◌, ◌<◌, ◌≤◌, min, ◌⊎◌, List, [], ◌∷◌, ◌++◌, length, Option}
 use Rattle.table.specs.declared.task.Task.{Task}
 use Rattle.table.specs.Tasks.{task_at, AllWhole}

@@ -1,10 +1,10 @@
 -- What is seen of a board, and what stays fixed over its life. Assumes nothing.
 --   slot_at, job_at   the slot of a row, and its open job
---   opened, closed  a slot after its row's release, and after its job closed
---   fed             a slot whose job was given one tick more
---   View            the clock, the counts, the mode, the slots, and what the alarm means
---   Rules           the tasks, their sleeps, and the alarm's reach and grain
---   fresh           the view of a new board
+--   opened, closed    a slot after its row's release, and after its job closed
+--   fed               a slot whose job was given one tick more
+--   View              the clock, the counts, the mode, the slots, and what the alarm means
+--   Rules             the tasks, their sleeps, and the alarm's reach and grain
+--   fresh             the view of a new board
 use Rattle.std.specs.Prelude.{ℕ, ◌+◌, cond, List, length, replicate, Some, None, Option, nat_le, slice_index_or}
 use Rattle.table.specs.declared.task.Task.{Task}
 use Rattle.table.specs.Tasks.{task_at}

@@ -1,7 +1,7 @@
 -- Which bytes may stand at which position of a name or a number. Assumes nothing.
 --   is_name_byte i b     the byte b may stand at the position i of a name
 --   is_number_byte i b   the same of a number
---   stretch t i bs   where the bytes stop that may stand at the positions from i on
+--   stretch t i bs       where the bytes stop that may stand at the positions from i on
 use Rattle.std.specs.Prelude.{ℕ, ◌+◌, Bool, cond, ◌&&◌, ◌||◌, List, [], ◌∷◌, ◌==◌, nat_lt}
 use Rattle.table.specs.Lines.{letter, digit, lead}
 

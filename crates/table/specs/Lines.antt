@@ -1,11 +1,11 @@
 -- The lines of a table's text: the first, which has the count of rows, and those of the rows. Assumes nothing.
 --   letter, digit, lead   a byte a to z; 0 to 9; 1 to 9
---   a_name      a letter, then at most eleven letters or digits
---   a_number    a digit 1 to 9, then at most six digits
---   count_line  (table COUNT) and a line end
---   row_line    (task NAME (run NUMBER) (due NUMBER) (gap NUMBER)) and a line end
---   decimal    the number that digits write in base ten
---   task_from   the task whose numbers these digits write
+--   a_name                a letter, then at most eleven letters or digits
+--   a_number              a digit 1 to 9, then at most six digits
+--   count_line            (table COUNT) and a line end
+--   row_line              (task NAME (run NUMBER) (due NUMBER) (gap NUMBER)) and a line end
+--   decimal               the number that digits write in base ten
+--   task_from             the task whose numbers these digits write
 use Rattle.std.specs.Prelude.{ℕ, ◌+◌, ◌-◌, ◌*◌, Bool, ◌&&◌, ◌||◌, List, [], ◌∷◌, ◌++◌, codes, nat_le}
 use Rattle.table.specs.Form.{Class, Piece, mark, word}
 use Rattle.table.specs.declared.task.Task.{Task}

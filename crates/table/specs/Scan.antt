@@ -1,7 +1,7 @@
 -- How far a text follows a line's description, computed byte by byte, and the words on the way. Assumes nothing.
---   Atom       one byte of a set, or at most so many
---   reach      the place of the first byte that the atoms do not allow there
---   fits       whether all of them were found
+--   Atom        one byte of a set, or at most so many
+--   reach       the place of the first byte that the atoms do not allow there
+--   fits        whether all of them were found
 --   word_size   how many bytes at the front make a word
 --   words_of    the words that stand in the text where the description has them
 use Rattle.std.specs.Prelude.{ℕ, zero, suc, ◌+◌, Bool, true, false, cond, ◌&&◌, List, [], ◌∷◌, take, drop, nat_eq}

@@ -1,8 +1,8 @@
 -- What a text begins with, and what a token holds of it. Assumes nothing.
 --   Lexeme        a word or a number with its bytes, a mark, another byte, or the end
 --   lexeme bs     what the text begins with
---   lexeme_of t    what a token says of that; place_of t its place
---   byte_of m      the byte that is the mark
+--   lexeme_of t   what a token says of that; place_of t its place
+--   byte_of m     the byte that is the mark
 use Rattle.std.specs.Prelude.{ℕ, cond, List, [], ◌∷◌, take, ◌==◌}
 use Rattle.table.specs.Lines.{letter, lead, a_name, a_number, decimal}
 use Rattle.table.specs.Scan.{word_size}

@@ -1,11 +1,11 @@
 -- The verdict on a text: the checks of a table, asked in turn, each refusal with its line and place. Assumes nothing.
---   Reading     what the lines so far say: the rows' names, their tasks, and the common period of these
---   rowIn       what the row's line at the front of a text says
---   limited     the checks of a row's numbers: run against due, due against gap, the gap's limit
---   joined      the row's name must be new, and the common period with it within its limit
---   lined       the whole check of one line: its form, its numbers, its name, the common period
---   rows_from    so many lines, and then the text's end
---   verdict     the whole text
+--   Reading            what the lines so far say: the rows' names, their tasks, and the common period of these
+--   name_in, task_in   what the row's line at the front of a text says
+--   limited            the checks of a row's numbers: run against due, due against gap, the gap's limit
+--   joined             the row's name must be new, and the common period with it within its limit
+--   lined              the whole check of one line: its form, its numbers, its name, the common period
+--   rows_from          so many lines, and then the text's end
+--   verdict            the whole text
 use Rattle.std.specs.Prelude.{ℕ, zero, suc, ◌+◌, Bool, false, cond, ◌&&◌, ◌||◌, List, [], ◌∷◌, ◌++◌, length, drop, Ok, Err, Result, ◌==◌, nat_le, nat_lt, slice_index_or}
 use Rattle.std.specs.Str.{bytes_eq}
 use Rattle.refusal.specs.declared.cases.Position.{Position}

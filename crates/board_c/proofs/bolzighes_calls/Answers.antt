@@ -1,7 +1,7 @@
 -- Each of the three alarms is new.
 use Rattle.std.proofs.Common.{◌∙◌, inl, inr}
 use Rattle.alarm.specs.contracts.counter.CounterAlarm.TheImpl as counter
-use Rattle.alarm.specs.contracts.divider.Divider as the-divider
+use Rattle.alarm.specs.contracts.divider.Divider as the_divider
 use Rattle.alarm.specs.contracts.divider.DividerAlarm.TheImpl as divider
 use Rattle.alarm.specs.contracts.topup.TopUpAlarm.TheImpl as topup
 use Rattle.board_c.proofs.bolzighes_calls.Goals as goal
@@ -30,5 +30,5 @@ returns-in-2 c =
       places = c.if-answers-calls.false;
       plan = c.fill.new.self;
       filled = c.in-Ok.ensures;
-      piled = inr (inr (c.in-2.is, (c.new-in-2-2.result, c.new-in-2-2.ensures.below.3 ∙ c.new-in-2.ensures.phase, c.answer_over-in-2.ensures (topup.dict the-divider.the_row divider.ghosts divider.dict))));
+      piled = inr (inr (c.in-2.is, (c.new-in-2-2.result, c.new-in-2-2.ensures.below.3 ∙ c.new-in-2.ensures.phase, c.answer_over-in-2.ensures (topup.dict the_divider.the_row divider.ghosts divider.dict))));
     })
