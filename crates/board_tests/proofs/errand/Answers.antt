@@ -1,24 +1,40 @@
 -- The two steps are a run from the new board, by the same rules.
-use Rattle.std.proofs.Common.{◌≡◌, List, [], ◌∷◌, refl, subst}
+use Rattle.std.proofs.Common.{◌≡◌, List, [], ◌∷◌, refl, subst, rules}
+use Rattle.alarm.specs.declared.base.Alarm.{Ghosts}
 use Rattle.rules.specs.declared.calls.Call.{Call}
 use Rattle.rules.specs.declared.calls.Call.TheVariants.{Release, Tick}
-use Rattle.rules.specs.Views.{Rules, View}
+use Rattle.rules.specs.declared.calls.Answer.{Answer}
+use Rattle.rules.specs.Views.{Rules}
 use Rattle.rules.specs.Steps.{Entry, Step}
-use Rattle.rules.specs.Logs.{call_of, calls_of}
+use Rattle.rules.specs.Logs.{calls_of}
 use Rattle.rules.specs.Promises.{Promise, Promised}
+use Rattle.board.specs.declared.board.Board.{Board}
+use Rattle.board.specs.Boards.{Does, view_of, rules_of}
+use Rattle.board.specs.Cores.{rules_for}
 use Rattle.board_tests.proofs.errand.Goals as goal
 
-two_steps : (R S T : Rules) (u v w : View) (d e : Entry) (a b : Call) → S ≡ R → T ≡ S → Promised S u → call_of d ≡ a → call_of e ≡ b
-    → Step S u d v → Step T v e w → (log : List Entry) × (calls_of log ≡ a ∷ b ∷ []) × Promise R log
-two_steps R S T u v w d e a b p q promise made also first second = (
-  d ∷ e ∷ [],
-  cc (made, also),
-  subst (λ x. Promise x (d ∷ e ∷ [])) p (promise (d ∷ e ∷ []) w (v, first, (w, subst (λ x. Step x v e w) q second, refl))),
-)
+-- a log of these two calls, which keeps the promise
+record Kept (R : Rules) (a b : Call) : Type 0 where
+  log : List Entry
+  made : calls_of log ≡ a ∷ b ∷ []
+  promise : Promise R log
+
+module _ {X : Type 0} (alarm : Ghosts X) where
+  two_steps : (R : Rules) (u : Board X) → rules_of alarm u ≡ R → Promised (rules_of alarm u) (view_of alarm u) → (a b : Call) (x y : Answer) (v w : Board X)
+      → Does alarm u a x v → Does alarm v b y w → Kept R a b
+  two_steps R u p promise a b x y v w first second =
+      let d = first.entry in
+      let e = second.entry in
+      record {
+        log = d ∷ e ∷ [];
+        made = cc (first.made, second.made);
+        promise = subst (λ r. Promise r (d ∷ e ∷ [])) p (promise (d ∷ e ∷ []) (view_of alarm w)
+            (view_of alarm v, first.step, (view_of alarm w, subst (λ r. Step r (view_of alarm v) e (view_of alarm w)) first.rules second.step, refl)));
+      }
 
 pub returns : goal.returns
 returns g c =
     let n = c.new-board.ensures in
-    let r = c.release.ensures.does in
-    let t = c.tick.ensures.does in
-    two_steps _ _ _ _ _ _ r.entry t.entry (Release c.args.row) Tick n.rules r.rules n.promise r.made t.made r.step t.step
+    let R = rules_for c.args.plan (g.T.Alarm.reach c.args.alarm) (g.T.Alarm.grain c.args.alarm) in
+    let kept : Kept R (Release c.args.row) Tick = search (rules, two_steps g.T.Alarm R c.new-board.result n.rules n.promise) in
+    (kept.log, kept.made, kept.promise)
