@@ -11,6 +11,10 @@ use planner::plan::Plan;
 use refusal::explain::Sentence;
 use rules::calls::Call;
 
+/// Told where the alarm has none of these names.
+const NO_ALARM: &str =
+    "no such alarm: counter, divider, ramp:W:counter, ramp:W:divider, top-up:counter or top-up:divider";
+
 /// Makes the calls on a board over the alarm, and prints them.
 fn over<T: Alarm + Drop>(
     rt: &HostRuntime,
@@ -48,29 +52,20 @@ pub(crate) fn rehearse(
     plan: Plan,
     calls: &[Call],
 ) -> anyhow::Result<()> {
-    if kind == "counter" {
-        return over(rt, plan, Counter::new(), calls);
-    }
-    if kind == "divider" {
-        return over(rt, plan, Divider::new(), calls);
-    }
-    if kind == "top-up:counter" {
-        return over(rt, plan, TopUp::new(Counter::new()), calls);
-    }
-    if kind == "top-up:divider" {
-        return over(rt, plan, TopUp::new(Divider::new()), calls);
-    }
-    if let Some(rest) = kind.strip_prefix("ramp:") {
-        if let Some((warm, below)) = rest.split_once(':') {
-            if below == "counter" {
-                return over_ramp(rt, plan, Counter::new(), warm, calls);
-            }
-            if below == "divider" {
-                return over_ramp(rt, plan, Divider::new(), warm, calls);
+    match kind {
+        "counter" => over(rt, plan, Counter::new(), calls),
+        "divider" => over(rt, plan, Divider::new(), calls),
+        "top-up:counter" => over(rt, plan, TopUp::new(Counter::new()), calls),
+        "top-up:divider" => over(rt, plan, TopUp::new(Divider::new()), calls),
+        _ => {
+            let Some(ramp) = kind.strip_prefix("ramp:") else {
+                return Err(anyhow!(NO_ALARM));
+            };
+            match ramp.split_once(':') {
+                Some((warm, "counter")) => over_ramp(rt, plan, Counter::new(), warm, calls),
+                Some((warm, "divider")) => over_ramp(rt, plan, Divider::new(), warm, calls),
+                _ => Err(anyhow!(NO_ALARM)),
             }
         }
     }
-    Err(anyhow!(
-        "no such alarm: counter, divider, ramp:W:counter, ramp:W:divider, top-up:counter or top-up:divider"
-    ))
 }

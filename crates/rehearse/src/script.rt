@@ -27,16 +27,20 @@ fn row_of(text: &[u8], word: &str) -> Option<usize> {
 
 /// The call of this name on a row.
 fn call_on(name: &str, row: usize) -> Option<Call> {
-    if name == "release" {
-        return Some(Call::Release(row));
+    match name {
+        "release" => Some(Call::Release(row)),
+        "done" => Some(Call::Done(row)),
+        "report" => Some(Call::Report(row)),
+        _ => None,
     }
-    if name == "done" {
-        return Some(Call::Done(row));
+}
+
+/// So many ticks, at most as many as one line may make.
+fn ticks_in(word: &str) -> Option<(Call, u32)> {
+    match word.parse::<u32>() {
+        Ok(ticks) => Some((Call::Tick, ticks.min(MOST_TICKS))),
+        Err(_) => None,
     }
-    if name == "report" {
-        return Some(Call::Report(row));
-    }
-    None
 }
 
 /// The call of a line and how often it is made, if the line is one.
@@ -47,25 +51,15 @@ fn call_in(text: &[u8], line: &str) -> Option<(Call, u32)> {
     if let Some(_) = words.next() {
         return None;
     }
-    match second {
-        None => {
-            if first == "tick" {
-                Some((Call::Tick, 1))
-            } else {
-                None
-            }
-        }
-        Some(word) => {
-            if first == "tick" {
-                return match word.parse::<u32>() {
-                    Ok(ticks) => Some((Call::Tick, ticks.min(MOST_TICKS))),
-                    Err(_) => None,
-                };
-            }
+    match (first, second) {
+        ("tick", None) => Some((Call::Tick, 1)),
+        ("tick", Some(word)) => ticks_in(word),
+        (name, Some(word)) => {
             let row = row_of(text, word)?;
-            let call = call_on(first, row)?;
+            let call = call_on(name, row)?;
             Some((call, 1))
         }
+        (_, None) => None,
     }
 }
 

@@ -63,11 +63,7 @@ pub(crate) fn show_log(rt: &HostRuntime, calls: &[Call], answers: &[Answer]) -> 
     let mut awake = false;
     for (call, answer) in calls.iter().zip(answers.iter()) {
         match *answer {
-            Answer::Released => {
-                let text = call_text(rt, *call)?;
-                println!(rt; "{now}: {text}")?;
-            }
-            Answer::Closed => {
+            Answer::Released | Answer::Closed => {
                 let text = call_text(rt, *call)?;
                 println!(rt; "{now}: {text}")?;
             }
