@@ -3,6 +3,7 @@ ghost use Rattle.std.specs.Prelude.{◌≡◌, Some};
 ghost use Rattle.refusal.specs.Explained.{reason_of, sentence};
 
 use crate::cases::Refusal;
+use crate::record::Record;
 use std::fmt;
 
 impl Refusal {
@@ -44,11 +45,13 @@ impl fmt::Display for Sentence {
     ghost output = { λ s. Some (sentence s.0) };
 
     fn fmt<W: fmt::Write>(&self, f: &mut fmt::Formatter<W>) -> fmt::Result {
-        let record = self.0.record();
         let reason = self.0.reason();
-        let line = record.line;
-        let place = record.place;
-        let value = record.value;
+        let Record {
+            line,
+            place,
+            value,
+            ..
+        } = Record::from(self.0);
         if line > 0 {
             return write!(f, "Refused at line {line}, byte {place}: {reason}.");
         }

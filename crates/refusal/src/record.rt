@@ -5,7 +5,7 @@ ghost use Rattle.refusal.specs.Records.{plain, located, valued, record_of};
 use crate::cases::{Position, Refusal};
 
 /// What is told of a refusal: its number, the layer that refused, and the line, place and value that it names.
-#[derive(Clone, Copy, PartialEq, Eq, Debug)]
+#[derive(Clone, Copy, PartialEq, Eq, Debug, Default)]
 pub struct Record {
     pub number: u32,
     pub layer: u32,
@@ -21,9 +21,7 @@ fn bare(number: u32, layer: u32) -> Record
     Record {
         number,
         layer,
-        line: 0,
-        place: 0,
-        value: 0,
+        ..Record::default()
     }
 }
 
@@ -32,11 +30,9 @@ fn in_text(number: u32, layer: u32, at: Position) -> Record
     ensures { result ≡ located number layer at }
 {
     Record {
-        number,
-        layer,
         line: at.line,
         place: at.place,
-        value: 0,
+        ..bare(number, layer)
     }
 }
 
@@ -45,20 +41,16 @@ fn with_value(number: u32, layer: u32, value: u32) -> Record
     ensures { result ≡ valued number layer value }
 {
     Record {
-        number,
-        layer,
-        line: 0,
-        place: 0,
         value,
+        ..bare(number, layer)
     }
 }
 
-impl Refusal {
-    /// The refusal's record.
-    pub fn record(self) -> Record
-        ensures { result ≡ record_of self }
-    {
-        match self {
+impl From<Refusal> for Record {
+    ghost from_gives = { λ refusal told. told ≡ record_of refusal };
+
+    fn from(refusal: Refusal) -> Record {
+        match refusal {
             Refusal::TextLength => bare(1, 1),
             Refusal::LineForm(at) => in_text(2, 1, at),
             Refusal::RowCount(at) => in_text(3, 2, at),
@@ -77,5 +69,14 @@ impl Refusal {
             Refusal::NotBegun => bare(16, 4),
             Refusal::WarmUpLimit => bare(17, 5),
         }
+    }
+}
+
+impl Refusal {
+    /// The refusal's record.
+    pub fn record(self) -> Record
+        ensures { result ≡ record_of self }
+    {
+        Record::from(self)
     }
 }
