@@ -26,7 +26,7 @@ table_tasks text table c rows a =
     ap (λ r. r.tasks) (ok_same (verdict text) (record { names = c.0; tasks = rows_of table; common = common_of table }) v.0 c.1 v.2) ∙ v.1.same_tasks
 
 table_least : (table : Table) → LeastCommon (rows_of table) (common_of table)
-table_least table = record { some = table.positive; common = table.multiple; least = table.least }
+table_least table = record { some = table.rows.positive; common = table.rows.multiple; least = table.rows.least }
 
 pub judged : (text : List ℕ) (r : Result Table Refusal) → Computed text r → Reads text r
 judged text (Ok table) c =

@@ -13,7 +13,7 @@ use Rattle.table.specs.Scan.{reaches, fitting}
 use Rattle.table.specs.Steps.{Past}
 use Rattle.table.specs.Verdict.{Reading, nothing_read, at, then_ask, lined, rows_from, count_in, counted, verdict}
 use Rattle.table.specs.declared.cursor.Cursor.{Cursor}
-use Rattle.table.specs.declared.rows.Draft.{Draft}
+use Rattle.table.specs.declared.rows.Rows.{Rows}
 use Rattle.table.specs.declared.task.Task.{Task}
 use Rattle.table.proofs.Lined.{Found}
 
@@ -126,14 +126,14 @@ pub same_parts : (names : List (List ℕ)) (ts us : List Task) (a b : ℕ) → u
 same_parts names ts us a b e h = cc
 
 -- the reader before its row i: what is left to ask gives the verdict
-module _ (bs : List ℕ) (n i : ℕ) (at_row : Cursor) (names : List (Bor (List ℕ))) (d : Draft)
+module _ (bs : List ℕ) (n i : ℕ) (at_row : Cursor) (names : List (Bor (List ℕ))) (d : Rows)
     (so_far : verdict bs ≡ rows_from (n - i) (i + 2) at_row.place at_row.rest.now (reading (contents (take i names)) d)) where
   pub row_refused : i < n → (e : Refusal) → lined (i + 2) at_row.place at_row.rest.now (reading (contents (take (i - 0) names)) d) ≡ Err e → verdict bs ≡ Err e
   row_refused more e stop =
       let here = subst (λ k. lined (i + 2) at_row.place at_row.rest.now (reading (contents (take k names)) d) ≡ Err e) (sub-zero i) stop in
       so_far ∙ rows_stop n i (i + 2) at_row.place at_row.rest.now (reading (contents (take i names)) d) e more here
 
-  pub row_taken : i < n → i < length names → (name : Bor (List ℕ)) (next : Cursor) (after : Draft) → Takes (i + 2) at_row (contents (take (i - 0) names)) d name.now next after
+  pub row_taken : i < n → i < length names → (name : Bor (List ℕ)) (next : Cursor) (after : Rows) → Takes (i + 2) at_row (contents (take (i - 0) names)) d name.now next after
       → verdict bs ≡ rows_from (n - (i + 1)) (i + 1 + 2) next.place next.rest.now (reading (contents (take (i + 1) (set names i name))) after)
   row_taken more room name next after t =
       let here = subst (λ k. Takes (i + 2) at_row (contents (take k names)) d name.now next after) (sub-zero i) t in

@@ -15,7 +15,7 @@ use Rattle.table.specs.Tasks.{LeastCommon}
 use Rattle.table.specs.Texts.{RowText, tasks, Accepts, Refuses}
 use Rattle.table.specs.Verdict.{Reading, lined, verdict}
 use Rattle.table.specs.declared.cursor.Cursor.{Cursor}
-use Rattle.table.specs.declared.rows.Draft.{Draft}
+use Rattle.table.specs.declared.rows.Rows.{Rows}
 use Rattle.table.specs.declared.rows.Table.{Table}
 use Rattle.table.specs.declared.task.Task.{Task}
 
@@ -23,10 +23,10 @@ abbrev pub contents : List (Bor (List ℕ)) → List (List ℕ)
 contents [] = []
 contents (x ∷ xs) = x.now ∷ contents xs
 
-abbrev pub reading : List (List ℕ) → Draft → Reading
+abbrev pub reading : List (List ℕ) → Rows → Reading
 reading names d = record { names = names; tasks = drafted d; common = common_so_far d }
 
-pub record Takes (line : ℕ) (at : Cursor) (names : List (List ℕ)) (before : Draft) (name : List ℕ) (next : Cursor) (after : Draft) : Type 0 where
+pub record Takes (line : ℕ) (at : Cursor) (names : List (List ℕ)) (before : Rows) (name : List ℕ) (next : Cursor) (after : Rows) : Type 0 where
   pub yes : lined line at.place at.rest.now (reading names before) ≡ Ok (reading (names ++ (name ∷ [])) after)
   pub place : next.place ≡ at.place + reaches row_line at.rest.now
   pub rest : next.rest.now ≡ drop (reaches row_line at.rest.now) at.rest.now

@@ -4,7 +4,7 @@ ghost use Rattle.table.specs.Common.{Measure, LeastMultiple, lcm};
 ghost use Rattle.table.specs.Limits.{most_gap, most_common};
 
 /// The greatest common divisor, by Euclid.
-fn gcd(a: u64, b: u64) -> u64
+fn gcd(a: u32, b: u32) -> u32
     requires { 1 ≤ a }
     ensures { Measure a b result }
 {
@@ -19,10 +19,10 @@ fn gcd(a: u64, b: u64) -> u64
 }
 
 /// The least common multiple.
-pub(crate) fn least_multiple(a: u64, b: u64) -> u64
+pub(crate) fn least_multiple(a: u32, b: u32) -> u64
     requires { (1 ≤ a) × (a ≤ most_common) × (1 ≤ b) × (b ≤ most_gap) }
     ensures value { result ≡ lcm a b }
     ensures least { LeastMultiple a b result }
 {
-    a / gcd(a, b) * b
+    u64::from(a / gcd(a, b)) * u64::from(b)
 }

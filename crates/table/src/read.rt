@@ -7,7 +7,7 @@ ghost use Rattle.table.specs.Steps.{Room};
 ghost use Rattle.table.specs.Verdict.{taken, limited, lined};
 
 use crate::cursor::Cursor;
-use crate::rows::{Draft, MOST_ROWS, Table};
+use crate::rows::{MOST_ROWS, Rows, Table};
 use crate::task::Task;
 use refusal::cases::{Position, Refusal};
 
@@ -53,7 +53,7 @@ fn next_row<'a>(
     at: Cursor<'a>,
     line: usize,
     names: &[&'a [u8]],
-    draft: &mut Draft,
+    draft: &mut Rows,
 ) -> Result<(&'a [u8], Cursor<'a>), Refusal>
     requires room { Room at }
     requires few { length (drafted draft.old) < most_rows }
@@ -71,9 +71,7 @@ fn next_row<'a>(
     if name_taken(names, row.name) {
         return Err(Refusal::NameTaken(here));
     }
-    if !draft.add(row.task) {
-        return Err(Refusal::CommonLimit(here));
-    }
+    draft.add(row.task, here)?;
     Ok((row.name, next))
 }
 
@@ -97,7 +95,7 @@ pub fn read(text: &[u8]) -> Result<Table, Refusal>
         return Err(Refusal::RowCount(Position { line: 1, place: 0 }));
     }
     let mut names = [text; MOST_ROWS];
-    let mut draft = Draft::new();
+    let mut draft = Rows::new();
     let mut at = first_row;
     for row in 0..count as usize {
         let (name, next) = next_row(at, row + 2, &names[0..row], &mut draft)?;

@@ -1,4 +1,4 @@
-//! A draft begins empty, takes one task after the other, and ends as a table.
+//! Rows begin as none, take one task after the other, and end as a table.
 ghost use Rattle.std.specs.Prelude.{◌≡◌, ℕ, ◌+◌, ◌<◌, ◌≤◌, [], ◌∷◌, ◌++◌, length, Some, None, MatchResult};
 ghost use Rattle.refusal.specs.declared.cases.Refusal.TheVariants.{CommonLimit};
 ghost use Rattle.table.specs.Common.{lcm};
@@ -8,45 +8,41 @@ ghost use Rattle.table.specs.Rows.{rows_of, common_of};
 ghost use Rattle.table.specs.Tasks.{Whole};
 
 use crate::period::least_multiple;
-use crate::rows::{Draft, MOST_ROWS, Table};
+use crate::rows::{MOST_ROWS, Rows, Table};
 use crate::task::Task;
+use refusal::cases::{Position, Refusal};
 
 /// The most ticks that a common period may have.
 const MOST_COMMON: u64 = 1_000_000;
 
-impl Draft {
+impl Rows {
     /// No task yet.
-    pub(crate) fn new() -> Draft
+    pub fn new() -> Rows
         ensures tasks { drafted result ≡ [] }
         ensures common { common_so_far result ≡ 1 }
     {
-        let none = Task {
-            run: 0,
-            due: 0,
-            gap: 0,
-        };
-        Draft {
-            list: [none; MOST_ROWS],
+        Rows {
+            list: [Task::default(); MOST_ROWS],
             count: 0,
             common: 1,
         }
     }
 
-    /// One task more, unless the common period would pass its limit.
-    pub(crate) fn add(&mut self, task: Task) -> bool
+    /// One task more, of the row whose line stands `here`, unless the common period would pass its limit.
+    pub(crate) fn add(&mut self, task: Task, here: Position) -> Result<(), Refusal>
         requires room { length (drafted self.old) < most_rows }
         requires whole { Whole task }
         requires bounded { task.gap ≤ most_gap }
-        ensures { Adds task result self.old self.new }
+        ensures { Adds here task result self.old self.new }
     {
-        let common = least_multiple(self.common as u64, task.gap as u64);
+        let common = least_multiple(self.common, task.gap);
         if common > MOST_COMMON {
-            return false;
+            return Err(Refusal::CommonLimit(here));
         }
         self.list[self.count] = task;
         self.count += 1;
         self.common = common as u32;
-        true
+        Ok(())
     }
 
     /// The table of the tasks so far.
@@ -55,11 +51,6 @@ impl Draft {
         ensures tasks { rows_of result ≡ drafted self }
         ensures common { common_of result ≡ common_so_far self }
     {
-        let list = self.list;
-        Table {
-            list,
-            count: self.count,
-            common: self.common,
-        }
+        Table { rows: self }
     }
 }

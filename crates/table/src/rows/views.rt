@@ -1,13 +1,43 @@
-//! What a table tells of itself.
+//! What rows tell of themselves, and a table of its rows.
 ghost use Rattle.std.specs.Prelude.{◌≡◌, ℕ, ◌<◌, ◌≤◌, length};
+ghost use Rattle.table.specs.Drafts.{drafted, common_so_far};
 ghost use Rattle.table.specs.Limits.{most_rows, most_common};
 ghost use Rattle.table.specs.Rows.{rows_of, common_of};
 ghost use Rattle.table.specs.Tasks.{AllWhole, Bounded, LeastCommon};
 
-use crate::rows::Table;
+use crate::rows::{Rows, Table};
 use crate::task::Task;
 
+impl Rows {
+    /// The tasks, in the order of their rows.
+    pub fn tasks(&self) -> &[Task]
+        ensures value { result.now ≡ drafted self.now }
+        ensures bound { length result.now ≤ most_rows }
+        ensures whole { AllWhole result.now }
+        ensures bounded { Bounded result.now }
+    {
+        &self.list[..self.count]
+    }
+
+    /// The common period: the least common multiple of the gaps, 1 where there is no row.
+    pub fn common(&self) -> u32
+        ensures value { result ≡ common_so_far self.now }
+        ensures bound { result ≤ most_common }
+        ensures least { LeastCommon (drafted self.now) result }
+    {
+        self.common
+    }
+}
+
 impl Table {
+    /// The rows, to be taken over whole.
+    pub fn rows(&self) -> Rows
+        ensures tasks { drafted result ≡ rows_of self.now }
+        ensures common { common_so_far result ≡ common_of self.now }
+    {
+        self.rows
+    }
+
     /// The tasks, in the order of their rows.
     pub fn tasks(&self) -> &[Task]
         ensures value { result.now ≡ rows_of self.now }
@@ -15,7 +45,7 @@ impl Table {
         ensures whole { AllWhole result.now }
         ensures bounded { Bounded result.now }
     {
-        &self.list[0..self.count]
+        self.rows.tasks()
     }
 
     /// The common period: the least common multiple of the gaps.
@@ -24,6 +54,6 @@ impl Table {
         ensures bound { result ≤ most_common }
         ensures least { LeastCommon (rows_of self.now) result }
     {
-        self.common
+        self.rows.common()
     }
 }

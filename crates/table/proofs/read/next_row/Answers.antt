@@ -23,16 +23,18 @@ returns-then-name_taken c =
     let m = c.in-Ok.ensures in
     lined_name c.args.line c.args.at.place c.args.at.rest.now (reading (contents c.args.names.now) c.args.draft.now) _ _ _ _ _ _ _ (past_found _ _ _ _ _ _ m.moves) m.task (sym c.in_ok-limits.ensures) (sym c.if-name_taken.ensures)
 
-pub returns-then-not-add : goal.returns-then-not-add
-returns-then-not-add c =
+pub returns-in_err-add : goal.returns-in_err-add
+returns-in_err-add c =
+    let p = err_from_is_err_and c.from_residual-in_err-add.result c.from_residual-in_err-add.ensures.1 in
     let m = c.in-Ok.ensures in
-    lined_common c.args.line c.args.at.place c.args.at.rest.now (reading (contents c.args.names.now) c.args.draft.now) _ _ _ _ _ _ _ (past_found _ _ _ _ _ _ m.moves) m.task (sym c.in_ok-limits.ensures) (sym c.if-name_taken.ensures) c.if-not-add.ensures.past
+    let over = c.in_err-add.ensures in
+    rw (p.1, p.2, over.why) (lined_common c.args.line c.args.at.place c.args.at.rest.now (reading (contents c.args.names.now) c.args.draft.now) _ _ _ _ _ _ _ (past_found _ _ _ _ _ _ m.moves) m.task (sym c.in_ok-limits.ensures) (sym c.if-name_taken.ensures) over.past)
 
 pub returns : goal.returns
 returns c =
     let m = c.in-Ok.ensures in
     let f = past_found _ _ _ _ _ _ m.moves in
-    let added = c.if-not-add.ensures in
+    let added = c.in_ok-add.ensures in
     let yes = lined_yes c.args.line c.args.at.place c.args.at.rest.now (reading (contents c.args.names.now) c.args.draft.now) _ _ _ _ _ _ _ (past_found _ _ _ _ _ _ m.moves) m.task (sym c.in_ok-limits.ensures) (sym c.if-name_taken.ensures) added.within in
     record {
       yes = yes ∙ ap Ok (same_parts _ _ _ _ _ added.tasks added.common);

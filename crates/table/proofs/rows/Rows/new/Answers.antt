@@ -1,6 +1,6 @@
 use Rattle.std.proofs.Common.{refl, arith}
 use native.Mathlib.Nat.{one-dvd}
-use Rattle.table.proofs.rows.Draft.new.Goals as goal
+use Rattle.table.proofs.rows.Rows.new.Goals as goal
 
 pub invariant_of-result : goal.invariant_of-result
 invariant_of-result c = record {

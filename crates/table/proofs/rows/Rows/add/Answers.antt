@@ -4,7 +4,7 @@ use Rattle.std.proofs.lemmas.List.{length-take-le}
 use Rattle.table.specs.Tasks.{AllWhole, Bounded, Common}
 use Rattle.table.specs.declared.task.Task.{Task}
 use Rattle.table.proofs.Drafting.{stored, whole_push, bounded_push, common_push, least_push}
-use Rattle.table.proofs.rows.Draft.add.Goals as goal
+use Rattle.table.proofs.rows.Rows.add.Goals as goal
 
 pub invariant_of-self : goal.invariant_of-self
 invariant_of-self c =
