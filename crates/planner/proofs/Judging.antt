@@ -78,7 +78,7 @@ module _ (tasks : List Task) (h : ℕ) (whole : AllWhole tasks) (common : Common
 pub judged_made : {A : Type 0} (tasks : List Task) (h : ℕ) (a : A) (plan : Plan) → Windows tasks h → Made tasks h plan → Judged {A = A} tasks h (Ok a) plan
 judged_made tasks h a plan w made =
     let here : computed (planned plan) (period_of plan) ≡ Ok (sleeps_of plan) =
-    computed_made (planned plan) (period_of plan) plan.whole plan.multiple plan.some (sleeps_of plan) plan.accepted (plan_sleeps plan) in
+    computed_made (planned plan) (period_of plan) plan.rows.whole plan.rows.multiple plan.rows.positive (sleeps_of plan) plan.accepted (plan_sleeps plan) in
     record {
       only_accepted = λ _. made.accepted;
       all_accepted = λ _. refl;

@@ -7,19 +7,20 @@
 --   AllSleeps   each row has its sleep
 --   Shortest    the smallest number of a list
 use Rattle.std.specs.Prelude.{◌≡◌, ℕ, ◌<◌, ◌≤◌, List, [], length, take}
+use Rattle.table.specs.Drafts.{drafted, common_so_far}
 use Rattle.table.specs.declared.task.Task.{Task}
 use Rattle.planner.specs.declared.plan.Plan.{Plan}
 use Rattle.planner.specs.Demand.{IsSleep}
 use Rattle.planner.specs.Sleeps.{sleep_at}
 
 abbrev pub planned : Plan → List Task
-planned plan = take plan.count plan.list
+planned plan = drafted plan.rows
 
 abbrev pub sleeps_of : Plan → List ℕ
-sleeps_of plan = take plan.count plan.sleeps
+sleeps_of plan = take (length (planned plan)) plan.sleeps
 
 abbrev pub period_of : Plan → ℕ
-period_of plan = plan.common
+period_of plan = common_so_far plan.rows
 
 abbrev pub load_of : Plan → ℕ
 load_of plan = plan.load

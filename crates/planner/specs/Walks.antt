@@ -1,9 +1,8 @@
--- A walk over a table's demand points, by where it stands. Assumes nothing.
-use Rattle.std.specs.Prelude.{ℕ, List}
-use Rattle.table.specs.declared.task.Task.{Task}
+-- How a walk over a table's demand points goes on. Assumes nothing.
+use Rattle.std.specs.Prelude.{◌≡◌, ℕ}
 use Rattle.planner.specs.declared.walk.Walk.{Walk}
-use Rattle.planner.specs.Standing.{Stands}
 
--- the walk has taken the points before `now`, and no other
-abbrev pub StandsAt : List Task → Walk → ℕ → Type 0
-StandsAt tasks walk now = Stands tasks walk.points now walk.total
+-- the walk `after` stands at `until`, over the same tasks; what it has taken by then is a fact of its type
+pub record Onward (before : Walk) (until : ℕ) (after : Walk) : Type 0 where
+  pub tasks : after.tasks.now ≡ before.tasks.now
+  pub at : after.at ≡ until

@@ -1,19 +1,18 @@
 //! What the rows run in a common period.
-ghost use Rattle.std.specs.Prelude.{◌≡◌, ◌+◌, ◌*◌, ◌≤◌};
+ghost use Rattle.std.specs.Prelude.{◌≡◌};
+ghost use Rattle.table.specs.Rows.{rows_of, common_of};
 ghost use Rattle.planner.specs.Demand.{load};
-ghost use Rattle.planner.specs.Standing.{Readable};
 
-use table::task::Task;
+use table::rows::Table;
 
-/// The ticks that the rows ask for in `period` ticks, a common multiple of their gaps.
-pub(crate) fn load_of(tasks: &[Task], period: u32) -> u32
-    requires readable { Readable tasks.now }
-    requires bound { period ≤ 1000000 }
-    ensures { result ≡ load tasks.now period }
+/// The ticks that the rows ask for in a common period.
+pub(crate) fn load_of(table: &Table) -> u32
+    ensures { result ≡ load (rows_of table.now) (common_of table.now) }
 {
+    let tasks = table.tasks();
+    let period = table.common();
     let mut sum = 0;
-    for row in 0..tasks.len() {
-        let task = tasks[row];
+    for task in tasks {
         sum += task.run * (period / task.gap);
     }
     sum

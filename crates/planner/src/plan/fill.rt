@@ -1,5 +1,5 @@
 //! Filling a plan from a table.
-ghost use Rattle.std.specs.Prelude.{◌≡◌, ◌≤◌, length, take, MatchResult};
+ghost use Rattle.std.specs.Prelude.{MatchResult};
 ghost use Rattle.table.specs.Rows.{rows_of, common_of};
 ghost use Rattle.planner.specs.Plans.{Empty};
 ghost use Rattle.planner.specs.Verdict.{Made, Refused, Windows, Judged};
@@ -8,28 +8,7 @@ use crate::period::load_of;
 use crate::plan::Plan;
 use crate::sleeps::sleeps_of;
 use refusal::cases::Refusal;
-use table::rows::{MOST_ROWS, Table};
-use table::task::Task;
-
-/// What stands in an array past the tasks of a plan, and is never read.
-const NO_TASK: Task = Task {
-    run: 0,
-    due: 0,
-    gap: 0,
-};
-
-/// The tasks of a slice, at the start of an array.
-fn copied(tasks: &[Task]) -> [Task; MOST_ROWS]
-    requires { length tasks.now ≤ 64 }
-    ensures size { length result ≡ 64 }
-    ensures value { take (length tasks.now) result ≡ tasks.now }
-{
-    let mut list = [NO_TASK; MOST_ROWS];
-    for row in 0..tasks.len() {
-        list[row] = tasks[row];
-    }
-    list
-}
+use table::rows::{MOST_ROWS, Rows, Table};
 
 impl Plan {
     /// The plan of no tasks.
@@ -37,10 +16,8 @@ impl Plan {
         ensures { Empty result }
     {
         Plan {
-            list: [NO_TASK; MOST_ROWS],
+            rows: Rows::new(),
             sleeps: [0; MOST_ROWS],
-            count: 0,
-            common: 1,
             load: 0,
         }
     }
@@ -50,26 +27,16 @@ impl Plan {
         ensures answered { MatchResult result (Made (rows_of table.now) (common_of table.now)) (Refused (rows_of table.now) (common_of table.now)) }
         ensures windows { Windows (rows_of table.now) (common_of table.now) }
     {
-        let tasks = table.tasks();
-        let common = table.common();
-        let load = load_of(tasks, common);
-        if load > common {
+        let load = load_of(table);
+        if load > table.common() {
             return Err(Refusal::Overload { load });
         }
-        match sleeps_of(tasks, common) {
-            Ok(sleeps) => {
-                let list = copied(tasks);
-                let count = tasks.len();
-                Ok(Plan {
-                    list,
-                    sleeps,
-                    count,
-                    common,
-                    load,
-                })
-            }
-            Err(window) => Err(Refusal::Overdemand { window }),
-        }
+        let sleeps = sleeps_of(table)?;
+        Ok(Plan {
+            rows: table.rows(),
+            sleeps,
+            load,
+        })
     }
 
     /// Fills the plan with a table's tasks and their sleeps, whatever it held before. A refused table leaves it empty.
@@ -77,8 +44,7 @@ impl Plan {
         ensures { Judged (rows_of table.now) (common_of table.now) result self.new }
     {
         *self = Plan::empty();
-        let plan = Plan::of(table)?;
-        *self = plan;
+        *self = Plan::of(table)?;
         Ok(())
     }
 }

@@ -5,7 +5,7 @@ ghost use Rattle.table.specs.Tasks.{Whole, LeastCommon};
 ghost use Rattle.planner.specs.Computed.{shortest_of};
 ghost use Rattle.planner.specs.Demand.{Loads, IsSleep};
 ghost use Rattle.planner.specs.Sleeps.{MetNear};
-ghost use Rattle.planner.specs.Plans.{planned, sleeps_of, period_of, load_of, Shortest};
+ghost use Rattle.planner.specs.Plans.{planned, sleeps_of, period_of, load_of, AllSleeps, Shortest};
 
 use crate::plan::Plan;
 use table::task::Task;
@@ -17,7 +17,7 @@ impl Plan {
         ensures sleeps { result ≡ length (sleeps_of self.now) }
         ensures bound { result ≤ 64 }
     {
-        self.count
+        self.rows.tasks().len()
     }
 
     /// The task of a row, if there is that row.
@@ -25,11 +25,15 @@ impl Plan {
         ensures value { result ≡ slice_get (planned self.now) row }
         ensures whole { MatchOption result (length (planned self.now) ≤ row) (λ task. (row < length (planned self.now)) × Whole task × (task.gap ≤ 100000)) }
     {
-        if row < self.count {
-            Some(self.list[row])
-        } else {
-            None
-        }
+        self.rows.tasks().get(row).copied()
+    }
+
+    /// The sleeps, row by row.
+    pub fn sleeps(&self) -> &[u32]
+        ensures value { result.now ≡ sleeps_of self.now }
+        ensures each { AllSleeps (planned self.now) result.now }
+    {
+        &self.sleeps[..self.count()]
     }
 
     /// The sleep of a row, if there is that row.
@@ -38,11 +42,7 @@ impl Plan {
         ensures sleep { MatchOption result (length (planned self.now) ≤ row) (λ s. (row < length (planned self.now)) × IsSleep (planned self.now) row s) }
         ensures near { MatchOption result (length (planned self.now) ≤ row) (MetNear (planned self.now) (period_of self.now) row) }
     {
-        if row < self.count {
-            Some(self.sleeps[row])
-        } else {
-            None
-        }
+        self.sleeps().get(row).copied()
     }
 
     /// The common period of the tasks: the least common multiple of their gaps.
@@ -51,7 +51,7 @@ impl Plan {
         ensures least { LeastCommon (planned self.now) result }
         ensures bound { result ≤ 1000000 }
     {
-        self.common
+        self.rows.common()
     }
 
     /// The ticks that the tasks ask for in a common period.
@@ -68,15 +68,6 @@ impl Plan {
         ensures value { result ≡ shortest_of (sleeps_of self.now) }
         ensures shortest { MatchOption result (planned self.now ≡ []) (λ s. (1 ≤ length (planned self.now)) × Shortest (sleeps_of self.now) s) }
     {
-        if self.count == 0 {
-            return None;
-        }
-        let mut shortest = self.sleeps[0];
-        for row in 1..self.count {
-            if self.sleeps[row] < shortest {
-                shortest = self.sleeps[row];
-            }
-        }
-        Some(shortest)
+        self.sleeps().iter().copied().min()
     }
 }

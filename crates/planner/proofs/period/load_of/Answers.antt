@@ -1,34 +1,44 @@
 -- One row more adds its runs, which take no more than the period.
 use Rattle.std.proofs.Common.{◌≡◌, ◌*◌, ◌/◌, length, refl, ap, ◌∙◌, add-one, arith}
+use Rattle.table.specs.Rows.{rows_of}
 use Rattle.table.specs.Tasks.{task_at}
 use Rattle.planner.specs.Demand.{sum_to, load}
 use Rattle.planner.proofs.Repeats.{row_load_le}
 use Rattle.planner.proofs.period.load_of.Goals as goal
 
-pub loop-row-init : goal.loop-row-init
+pub loop-task-init : goal.loop-task-init
 unfolding sum_to
-loop-row-init c = (refl, omega arith)
+loop-task-init c = (refl, omega arith)
 
 pub overflow_mul-sum : goal.overflow_mul-sum
-overflow_mul-sum c = omega (arith, row_load_le (task_at c.args.tasks.now c.loop-row.row) c.args.period (c.requires.readable.whole c.loop-row.row (omega arith)))
+overflow_mul-sum c =
+    let told = c.tasks-tasks.ensures in
+    let row = c.loop-task.task-index in
+    omega (arith, row_load_le (task_at c.tasks-tasks.result.now row) c.common-period.result (told.whole row (omega arith)), c.common-period.ensures.bound)
 
 pub nonzero_div-sum : goal.nonzero_div-sum
-nonzero_div-sum c = omega (arith, c.requires.readable.whole c.loop-row.row (omega arith))
+nonzero_div-sum c = omega (arith, c.tasks-tasks.ensures.whole c.loop-task.task-index (omega arith))
 
 pub overflow_add-sum : goal.overflow_add-sum
-overflow_add-sum c = omega (arith, row_load_le (task_at c.args.tasks.now c.loop-row.row) c.args.period (c.requires.readable.whole c.loop-row.row (omega arith)), c.requires.readable.few)
+overflow_add-sum c =
+    let told = c.tasks-tasks.ensures in
+    let row = c.loop-task.task-index in
+    omega (arith, row_load_le (task_at c.tasks-tasks.result.now row) c.common-period.result (told.whole row (omega arith)), c.common-period.ensures.bound, told.bound.1)
 
-pub loop-row-preserved : goal.loop-row-preserved
+pub loop-task-preserved : goal.loop-task-preserved
 unfolding sum_to
-loop-row-preserved c =
-    let l = c.loop-row in (
+loop-task-preserved c =
+    let told = c.tasks-tasks.ensures in
+    let l = c.loop-task in (
       rw add-one (omega (arith, l.invariant.0)),
-      omega (arith, row_load_le (task_at c.args.tasks.now l.row) c.args.period (c.requires.readable.whole l.row (omega arith))),
+      omega (arith, row_load_le (task_at c.tasks-tasks.result.now l.task-index) c.common-period.result (told.whole l.task-index (omega arith)), c.common-period.ensures.bound),
     )
 
 pub returns : goal.returns
 unfolding load
 returns c =
-    let tasks = c.args.tasks.now in
-    let e : c.loop-row.row ≡ length tasks = omega arith in
-    c.loop-row.invariant.0 ∙ ap (λ n. sum_to n (λ i. (task_at tasks i).run * (c.args.period / (task_at tasks i).gap))) e
+    let tasks = c.tasks-tasks.result.now in
+    let h = c.common-period.result in
+    let e : c.loop-task.task-index ≡ length tasks = omega arith in
+    c.loop-task.invariant.0 ∙ ap (λ n. sum_to n (λ i. (task_at tasks i).run * (h / (task_at tasks i).gap))) e
+    ∙ ap (λ rows. load rows h) c.tasks-tasks.ensures.value ∙ ap (load (rows_of c.args.table.now)) c.common-period.ensures.value

@@ -1,13 +1,12 @@
 use Rattle.std.proofs.Common.{◌≡◌, ◌-◌, ◌≤◌, length}
-use Rattle.planner.specs.Walks.{StandsAt}
+use Rattle.table.specs.Rows.{rows_of}
 use Rattle.planner.proofs.Sleeping.{Sleeping}
 use Rattle.planner.proofs.sleeps.sleeps_of.Given as goal
 
-abbrev pub invariant-loop-from : goal.invariant-loop-from
-invariant-loop-from l =
-    (length l.sleeps ≡ 64) × (l.from ≤ l.end)
-    × StandsAt l.tasks l.walk l.from
-    × Sleeping l.tasks l.sleeps l.from
+abbrev pub invariant-loop-walk : goal.invariant-loop-walk
+invariant-loop-walk l =
+    (length l.sleeps ≡ 64) × (l.walk.tasks.now ≡ rows_of l.table) × (l.walk.at ≤ l.end)
+    × Sleeping (rows_of l.table) l.sleeps l.walk.at
 
-abbrev pub decreases-loop-from : goal.decreases-loop-from
-decreases-loop-from l = l.end - l.from
+abbrev pub decreases-loop-walk : goal.decreases-loop-walk
+decreases-loop-walk l = l.end - l.walk.at

@@ -1,29 +1,30 @@
 -- A row's sleep, as the plan's type knows it.
-use Rattle.std.proofs.Common.{◌<◌, length, Some, sym, ap, ◌∙◌, subst, arith}
-use Rattle.std.proofs.lemmas.Option.{slice_get-get_or, slice_get_past}
-use Rattle.planner.specs.Demand.{IsSleep}
-use Rattle.planner.specs.Plans.{planned, sleeps_of, period_of}
-use Rattle.planner.specs.Sleeps.{MetNear}
-use Rattle.planner.proofs.Plans.{tasks_count, sleeps_count, sleep_kept, plan_sleeps, plan_met}
+use Rattle.std.proofs.Common.{◌≡◌, ℕ, List, length, get_or, Some, None, Option, Bor, ltb, sym, refl, ◌∙◌, subst, arith}
+use Rattle.std.proofs.lemmas.Bool.Decides.{nat_tests}
+use Rattle.std.specs.List.{slice_get}
+use Rattle.std.specs.Option.{is_some, IfSome, option_copied}
+use Rattle.std.proofs.lemmas.Option.{slice_get_past, slice_get_read}
+use Rattle.planner.specs.Plans.{sleeps_of}
+use Rattle.planner.proofs.Plans.{SleepTold, NearTold, sleep_told, near_told}
 use Rattle.planner.proofs.plan.Plan.sleep.Goals as goal
 
-pub returns-then-row-self : goal.returns-then-row-self
-returns-then-row-self c =
-    let plan = c.args.self.now in
-    let row = c.args.row in
-    let inside : row < length (planned plan) = omega (arith, tasks_count plan) in
-    let same = sleep_kept plan row (omega arith) in
-    record {
-      value = sym (slice_get-get_or (sleeps_of plan) row 0 (omega (arith, sleeps_count plan)) ∙ ap Some same);
-      sleep = (inside, subst (IsSleep (planned plan) row) same ((plan_sleeps plan).each row inside));
-      near = subst (MetNear (planned plan) (period_of plan) row) same (plan_met plan row inside);
-    }
+-- what was looked up, and copied
+got : (r : Option (Bor ℕ)) (xs : List ℕ) (i : ℕ) → is_some r ≡ ltb i (length xs) → IfSome r (λ x. x.now ≡ get_or xs i x.now) → slice_get xs i ≡ option_copied r
+got None xs i e v = slice_get_past xs i (grind (arith, nat_tests))
+got (Some x) xs i e v = slice_get_read xs (length xs) i x.now refl (grind (arith, nat_tests)) v
 
-pub returns-else-row-self : goal.returns-else-row-self
-returns-else-row-self c =
+pub returns-clause-sleep : goal.returns-clause-sleep
+returns-clause-sleep c =
     let plan = c.args.self.now in
-    record {
-      value = sym (slice_get_past (sleeps_of plan) c.args.row (omega (arith, sleeps_count plan)));
-      sleep = omega (arith, tasks_count plan);
-      near = omega (arith, tasks_count plan);
-    }
+    let looked = c.get.ensures.lookup in
+    let value : slice_get (sleeps_of plan) c.args.row ≡ c.copied.result =
+    rw (← c.sleeps.ensures.value) (got c.get.result c.sleeps.result.now c.args.row looked.0 looked.1 ∙ sym c.copied.ensures) in
+    subst (SleepTold plan c.args.row) value (sleep_told plan c.args.row)
+
+pub returns-clause-near : goal.returns-clause-near
+returns-clause-near c =
+    let plan = c.args.self.now in
+    let looked = c.get.ensures.lookup in
+    let value : slice_get (sleeps_of plan) c.args.row ≡ c.copied.result =
+    rw (← c.sleeps.ensures.value) (got c.get.result c.sleeps.result.now c.args.row looked.0 looked.1 ∙ sym c.copied.ensures) in
+    subst (NearTold plan c.args.row) value (near_told plan c.args.row)

@@ -1,12 +1,11 @@
-use Rattle.std.proofs.Common.{◌-◌, min}
-use Rattle.planner.specs.Walks.{StandsAt}
+use Rattle.std.proofs.Common.{◌≡◌, ◌-◌, ◌≤◌}
 use Rattle.planner.proofs.Legs.{SoFar}
 use Rattle.planner.proofs.walk.Walk.leg.Given as goal
 
-abbrev pub invariant-loop-at : goal.invariant-loop-at
-invariant-loop-at l =
-    StandsAt l.tasks l.self (min l.at l.until)
-    × SoFar l.tasks l.from l.until l.at l.least
+abbrev pub invariant-loop-self : goal.invariant-loop-self
+invariant-loop-self l =
+    (l.self.tasks.now ≡ l.initial.self.tasks.now) × (l.self.at ≤ l.until)
+    × SoFar l.self.tasks.now l.initial.self.at l.until l.self.at l.least
 
-abbrev pub decreases-loop-at : goal.decreases-loop-at
-decreases-loop-at l = l.until - l.at
+abbrev pub decreases-loop-self : goal.decreases-loop-self
+decreases-loop-self l = l.until - l.self.at

@@ -1,6 +1,5 @@
 -- Row by row, the first point of each is taken into the queue.
-use Rattle.std.proofs.Common.{◌≡◌, ◌+◌, ◌∷◌, length, take, refl, subst, arith}
-use Rattle.std.specs.List.Sorted.{IsPermutation}
+use Rattle.std.proofs.Common.{◌≡◌, ◌+◌, length, take, sym, refl, ap, subst, arith}
 use Rattle.queue.specs.Queue.{Queue}
 use Rattle.table.specs.Tasks.{task_at}
 use Rattle.planner.specs.declared.point.Point.{Point}
@@ -8,29 +7,39 @@ use Rattle.planner.specs.Points.{sooner}
 use Rattle.planner.proofs.Steps.{Partly, partly_none, partly_more, partly_all}
 use Rattle.planner.proofs.walk.Walk.new.Goals as goal
 
-pub loop-row-init : goal.loop-row-init
-loop-row-init c = (refl, (omega arith, λ k d h. absurd (omega arith)), partly_none _)
+pub loop-task-init : goal.loop-task-init
+loop-task-init c = (refl, refl, (omega arith, λ k d h. absurd (omega arith)), partly_none _)
 
-pub loop-row-preserved : goal.loop-row-preserved
-loop-row-preserved c =
-    let tasks = c.args.tasks.now in
-    let l = c.loop-row in
-    let row = l.row in
-    let into = c.in-Ok.ensures in
-    let p : Point = record { time = (task_at tasks row).due; row = row } in
-    let heap = c.push.new.heap in (
+pub overflow_cast-first : goal.overflow_cast-first
+overflow_cast-first c = omega (arith, c.tasks-tasks.ensures.bound.1)
+
+pub loop-task-preserved : goal.loop-task-preserved
+loop-task-preserved c =
+    let told = c.tasks-tasks.ensures in
+    let tasks = c.tasks-tasks.result.now in
+    let l = c.loop-task in
+    let row = l.held in
+    let into = rw c.unwrap-held.ensures at c.push.ensures in
+    let p : Point = record { time = (task_at tasks l.task-index).due; row = row } in
+    let heap = c.push.new.heap in
+    let more : c.unwrap-held.result ≡ row + 1 = into.more in (
       omega (arith, c.push.auto.heap),
-      subst (λ n. Queue sooner heap n) into.more (into.queue l.invariant.1),
-      partly_more tasks (take row l.points) (take (row + 1) heap) p c.requires.whole l.invariant.2 (omega arith) refl
-          (subst (λ n. IsPermutation (p ∷ take row l.points) (take n heap)) into.more into.held),
+      omega (arith, more),
+      into.queue l.invariant.2,
+      subst (Partly tasks (take c.unwrap-held.result heap)) (sym more)
+          (partly_more tasks (take row l.points) (take c.unwrap-held.result heap) p told.whole l.invariant.3 (omega arith) (ap (λ n. (task_at tasks n).due) (sym l.invariant.1)) into.held),
     )
 
-pub returns : goal.returns
-returns c =
-    let tasks = c.args.tasks.now in
-    let l = c.loop-row in
-    let e : l.row ≡ length tasks = omega arith in
+pub invariant_of-result : goal.invariant_of-result
+invariant_of-result c =
+    let told = c.tasks-tasks.ensures in
+    let tasks = c.tasks-tasks.result.now in
+    let l = c.loop-task in
+    let e : l.held ≡ length tasks = omega arith in
     record {
-      queue = subst (Queue sooner l.points) e l.invariant.1;
-      standing = partly_all tasks (take (length tasks) l.points) (length tasks) (subst (λ n. Partly tasks (take n l.points) n) e l.invariant.2) refl;
+      readable = record { some = told.bound.0; few = told.bound.1; whole = told.whole; bounded = told.bounded };
+      stands = record {
+        queue = subst (Queue sooner l.points) e l.invariant.2;
+        standing = partly_all tasks (take (length tasks) l.points) (length tasks) (subst (λ n. Partly tasks (take n l.points) n) e l.invariant.3) refl;
+      };
     }
