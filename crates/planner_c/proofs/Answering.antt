@@ -1,8 +1,9 @@
 -- What the plan was filled with decides the answer: a text that leaves a plan is that of an accepted table, whose rows have
 -- the plan's sleeps, and no sleep comes near what refusals are raised by, since it is at most its row's due.
-use Rattle.std.proofs.Common.{◌≡◌, ℕ, ◌+◌, ◌<◌, ◌≤◌, true, false, ◌⊎◌, List, length, Some, None, Ok, Err, Result, sym, refl, ap, ◌∙◌, subst, inl, inr, arith}
+use Rattle.std.proofs.Common.{◌≡◌, ℕ, ◌+◌, ◌<◌, ◌≤◌, true, false, ◌⊎◌, List, length, Some, None, Option, MatchOption, Ok, Err, Result, sym, refl, ap, ◌∙◌, subst, inl, inr, arith}
 use lib.ListN.{length-map}
 use Rattle.std.specs.List.{slice_get}
+use Rattle.std.specs.Option.{ok_or}
 use Rattle.refusal.specs.declared.cases.Refusal.{Refusal}
 use Rattle.refusal.specs.declared.cases.Refusal.TheVariants.{TextLength, LineForm, RowCount, RunAboveDue, DueAboveGap, GapLimit, NameTaken, CommonLimit, TextAfter, Overload, Overdemand, NoSuchRow, TooSoon, ClockEnd, NoOpenJob, NotBegun, WarmUpLimit}
 use Rattle.refusal.specs.Records.{number_of}
@@ -13,7 +14,7 @@ use Rattle.planner.specs.Demand.{Accepted, IsSleep}
 use Rattle.planner.specs.Plans.{planned, sleeps_of}
 use Rattle.planner.specs.Texts.{Filled}
 use Rattle.planner.specs.Verdict.{Judged}
-use Rattle.planner_c.specs.Calls.{refused_from, checked, quoted, sleep_or, Checks, Quotes}
+use Rattle.planner_c.specs.Calls.{refused_from, checked, quoted, sleep_or, raised, Checks, Quotes}
 
 -- no refusal has the number 0
 numbered : (e : Refusal) → 1 ≤ number_of e
@@ -61,11 +62,11 @@ module _ {X : Type 0} (text : List ℕ) (x : X) (plan : Plan) (filled : Filled t
   short : (row sleep : ℕ) → row < length (planned plan) → IsSleep (planned plan) row sleep → sleep < refused_from
   short row sleep l s =
       let within = s.always (task_at (planned plan) row).due (omega arith) in
-      let whole = plan.whole row l in
-      let bounded = plan.bounded row l in
+      let whole = plan.rows.whole row l in
+      let bounded = plan.rows.bounded row l in
       omega (arith, within, whole.2, bounded)
 
-  pub accepted_quotes : (row sleep : ℕ) → Some sleep ≡ slice_get (sleeps_of plan) row → row < length (planned plan)
+  accepted_quotes : (row sleep : ℕ) → Some sleep ≡ slice_get (sleeps_of plan) row → row < length (planned plan)
       → IsSleep (planned plan) row sleep → Quotes text row sleep
   accepted_quotes row sleep told l s = record {
     value = ap sleep_or told ∙ sym (ap (λ answer. quoted answer row) filled.computes);
@@ -73,13 +74,20 @@ module _ {X : Type 0} (text : List ℕ) (x : X) (plan : Plan) (filled : Filled t
     only_sleeps = λ low. (of_table.0, of_table.1, of_table.2, omega (arith, same_size of_table.0 of_table.1));
   }
 
-  pub missing_quotes : (row : ℕ) → None ≡ slice_get (sleeps_of plan) row → length (planned plan) ≤ row
+  missing_quotes : (row : ℕ) → None ≡ slice_get (sleeps_of plan) row → length (planned plan) ≤ row
       → Quotes text row (refused_from + number_of NoSuchRow)
   missing_quotes row told l = record {
     value = ap sleep_or told ∙ sym (ap (λ answer. quoted answer row) filled.computes);
     sleeps = λ rows a acc m. absurd (omega (arith, same_size rows a));
     only_sleeps = λ low. absurd (omega arith);
   }
+
+  -- the row's sleep, or that there is no such row
+  pub sleep_quotes : (row : ℕ) (found : Option ℕ) → found ≡ slice_get (sleeps_of plan) row
+      → MatchOption found (length (planned plan) ≤ row) (λ sleep. (row < length (planned plan)) × IsSleep (planned plan) row sleep)
+      → Quotes text row (raised (ok_or found NoSuchRow))
+  sleep_quotes row (Some sleep) told is = accepted_quotes row sleep told is.0 is.1
+  sleep_quotes row None told is = missing_quotes row told is
 
   pub accepted_checks : Checks text 0
   accepted_checks = record {

@@ -2,6 +2,7 @@
 --   refused_from   what is added to a refusal's number where a sleep is asked for
 --   checked        0 for an accepted text, else the refusal's number
 --   quoted         the row's sleep, or the number of the refusal, raised: the text's, else that of a missing row
+--   raised         the number of an answer that is a sleep or a refusal
 --   Checks         the answer to a text: that number, which is 0 exactly for an accepted table
 --   Quotes         the answer to a text and a row: that number, which is not raised exactly for a row of an accepted
 --                  table, and is then the row's sleep
@@ -28,6 +29,11 @@ sleep_or None = 1000000 + number_of NoSuchRow
 abbrev pub quoted : Result (List ℕ) Refusal → ℕ → ℕ
 quoted (Ok sleeps) row = sleep_or (slice_get sleeps row)
 quoted (Err e) row = 1000000 + number_of e
+
+-- a sleep, or the number of the refusal, raised
+abbrev pub raised : Result ℕ Refusal → ℕ
+raised (Ok sleep) = sleep
+raised (Err e) = 1000000 + number_of e
 
 pub record Checks (text : List ℕ) (r : ℕ) : Type 0 where
   pub value : r ≡ checked (answer_to text)

@@ -3,7 +3,7 @@
 
 ghost use Rattle.std.specs.Prelude.{◌≡◌, ◌+◌, ◌<◌};
 ghost use Rattle.planner.specs.Texts.{answer_to};
-ghost use Rattle.planner_c.specs.Calls.{checked, quoted, Checks, Quotes};
+ghost use Rattle.planner_c.specs.Calls.{checked, quoted, raised, Checks, Quotes};
 
 use planner::plan::Plan;
 use refusal::cases::Refusal;
@@ -24,6 +24,15 @@ pub extern "C" fn bolzighes_check(text: &[u8]) -> u32
     }
 }
 
+/// The sleep of a row of a table's text. A text is refused before a missing row.
+fn sleep_in(text: &[u8], row: usize) -> Result<u32, Refusal>
+    ensures { Quotes text.now row (raised result) }
+{
+    let mut plan = Plan::empty();
+    plan.fill(text)?;
+    plan.sleep(row).ok_or(Refusal::NoSuchRow)
+}
+
 /// The sleep of a row of a table's text, or 1,000,000 plus the refusal's number: that of the text if it is refused,
 /// else that of a missing row.
 #[unsafe(no_mangle)]
@@ -31,12 +40,8 @@ pub extern "C" fn bolzighes_sleep(text: &[u8], row: u64) -> u32
     ensures value { result ≡ quoted (answer_to text.now) row }
     ensures quotes { Quotes text.now row result }
 {
-    let mut plan = Plan::empty();
-    match plan.fill(text) {
-        Ok(()) => match plan.sleep(row as usize) {
-            Some(sleep) => sleep,
-            None => REFUSED + Refusal::NoSuchRow.record().number,
-        },
+    match sleep_in(text, row as usize) {
+        Ok(sleep) => sleep,
         Err(refusal) => REFUSED + refusal.record().number,
     }
 }

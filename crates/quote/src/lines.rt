@@ -17,16 +17,12 @@ pub fn plan_line(heap: Global, plan: &Plan) -> Result<String, AllocError>
 }
 
 /// Adds a row's line: its name and its sleep.
-pub fn add_sleep(
-    heap: Global,
-    page: &mut Vec<u8>,
-    name: &[u8],
-    sleep: u32,
-) -> Result<(), AllocError>
+pub fn add_sleep(page: &mut Vec<u8>, name: &[u8], sleep: u32) -> Result<(), AllocError>
     ensures { OnOk result (page.new.items ≡ page.old.items ++ sleep_text name.now sleep) }
 {
     page.extend_from_slice(b"(sleep ")?;
     page.extend_from_slice(name)?;
+    let heap = *page.allocator();
     let rest = format!(in heap; " {sleep})\n")?;
     page.extend_from_slice(rest.as_bytes())?;
     Ok(())

@@ -18,27 +18,24 @@ pub struct Quote {
 }
 
 /// Adds the lines of all rows.
-fn add_rows(heap: Global, page: &mut Vec<u8>, text: &[u8], plan: &Plan) -> Result<(), AllocError>
+fn add_rows(page: &mut Vec<u8>, text: &[u8], plan: &Plan) -> Result<(), AllocError>
     ensures { OnOk result (page.new.items ≡ page.old.items ++ sleep_texts (names_in text.now) (sleeps_of plan.now)) }
 {
-    for row in 0..plan.count() {
+    for (row, sleep) in plan.sleeps().iter().enumerate() {
         let Some(name) = name_of(text, row) else {
             break;
         };
-        let Some(sleep) = plan.sleep(row) else {
-            break;
-        };
-        add_sleep(heap, page, name, sleep)?;
+        add_sleep(page, name, *sleep)?;
     }
     Ok(())
 }
 
 /// Adds the line of the shortest sleep.
-fn add_shortest(heap: Global, page: &mut Vec<u8>, plan: &Plan) -> Result<(), AllocError>
+fn add_shortest(page: &mut Vec<u8>, plan: &Plan) -> Result<(), AllocError>
     ensures { OnOk result (page.new.items ≡ page.old.items ++ shortest_line_of (shortest_of (sleeps_of plan.now))) }
 {
     if let Some(shortest) = plan.shortest() {
-        let line = shortest_line(heap, shortest)?;
+        let line = shortest_line(*page.allocator(), shortest)?;
         page.extend_from_slice(line.as_bytes())?;
     }
     Ok(())
@@ -53,8 +50,8 @@ pub fn quote_text(heap: Global, text: &[u8]) -> Result<Quote, AllocError>
         Ok(()) => {
             let first = plan_line(heap, &plan)?;
             let mut page = Vec::from_slice(heap, first.as_bytes())?;
-            add_rows(heap, &mut page, text, &plan)?;
-            add_shortest(heap, &mut page, &plan)?;
+            add_rows(&mut page, text, &plan)?;
+            add_shortest(&mut page, &plan)?;
             Ok(Quote {
                 page,
                 refusal: None,

@@ -8,12 +8,21 @@ use quote::page::quote_text;
 use refusal::cases::{Position, Refusal};
 use refusal::explain::Sentence;
 use std::io::Write;
+use typed::Labelled;
 
 /// Prints a label, and what is printed for the text.
 pub(crate) fn show(rt: &HostRuntime, label: &str, text: &[u8]) -> anyhow::Result<()> {
     let quote = quote_text(rt.alloc(), text)?;
     rt.println(label)?;
     rt.stdout().write_all(quote.page.as_slice())?;
+    Ok(())
+}
+
+/// Prints each label, and what is printed for its text.
+fn show_all(rt: &HostRuntime, texts: &[Labelled]) -> anyhow::Result<()> {
+    for (label, text) in texts {
+        show(rt, label, text)?;
+    }
     Ok(())
 }
 
@@ -30,7 +39,7 @@ fn tell_others(rt: &HostRuntime) -> anyhow::Result<()> {
         Refusal::GapLimit(at),
         Refusal::Overload { load: 113 },
     ];
-    for other in others.iter().copied() {
+    for other in others {
         rt.println(other)?;
         rt.println(Sentence(other))?;
     }
@@ -38,10 +47,10 @@ fn tell_others(rt: &HostRuntime) -> anyhow::Result<()> {
 }
 
 fn run(rt: &HostRuntime) -> anyhow::Result<()> {
-    typed::figures(rt)?;
-    typed::rows(rt)?;
-    typed::forms(rt)?;
-    typed::edges(rt)?;
+    show_all(rt, &typed::FIGURES)?;
+    show_all(rt, &typed::ROWS)?;
+    show_all(rt, &typed::FORMS)?;
+    show_all(rt, &typed::EDGES)?;
     made::sizes(rt)?;
     made::counts(rt)?;
     tell_others(rt)

@@ -1,188 +1,155 @@
-//! Texts as a person would type them.
-use crate::show;
+//! Texts as a person would type them, each under a label.
+
+/// A label, and the text under it.
+pub(crate) type Labelled = (&'static str, &'static [u8]);
 
 /// The worked tables, and the limits of a gap and of the common period.
-pub(crate) fn figures(rt: &HostRuntime) -> anyhow::Result<()> {
-    show(
-        rt,
+pub(crate) const FIGURES: [Labelled; 9] = [
+    (
         "cutter",
         b"(table 3)\n(task head (run 8) (due 16) (gap 16))\n(task lens (run 12) (due 28) (gap 28))\n(task fan (run 1) (due 56) (gap 56))\n",
-    )?;
-    show(
-        rt,
+    ),
+    (
         "due before gap",
         b"(table 3)\n(task a (run 1) (due 4) (gap 5))\n(task b (run 1) (due 4) (gap 6))\n(task c (run 1) (due 7) (gap 10))\n",
-    )?;
-    show(
-        rt,
+    ),
+    (
         "no sleep left",
         b"(table 2)\n(task a (run 2) (due 2) (gap 4))\n(task b (run 2) (due 4) (gap 4))\n",
-    )?;
-    show(
-        rt,
+    ),
+    (
         "a window without room",
         b"(table 2)\n(task a (run 2) (due 2) (gap 4))\n(task b (run 2) (due 3) (gap 4))\n",
-    )?;
-    show(
-        rt,
+    ),
+    (
         "too much load",
         b"(table 2)\n(task a (run 1) (due 1) (gap 1))\n(task b (run 1) (due 2) (gap 2))\n",
-    )?;
-    show(
-        rt,
+    ),
+    (
         "gap 100000",
         b"(table 1)\n(task a (run 1) (due 1) (gap 100000))\n",
-    )?;
-    show(
-        rt,
+    ),
+    (
         "gap 100001",
         b"(table 1)\n(task a (run 1) (due 1) (gap 100001))\n",
-    )?;
-    show(
-        rt,
+    ),
+    (
         "gaps 64 and 15625",
         b"(table 2)\n(task a (run 1) (due 64) (gap 64))\n(task b (run 1) (due 15625) (gap 15625))\n",
-    )?;
-    show(
-        rt,
+    ),
+    (
         "gaps 1000 and 1001",
         b"(table 2)\n(task a (run 1) (due 1000) (gap 1000))\n(task b (run 1) (due 1001) (gap 1001))\n",
-    )
-}
+    ),
+];
 
 /// The checks of rows, and which of two comes first.
-pub(crate) fn rows(rt: &HostRuntime) -> anyhow::Result<()> {
-    show(
-        rt,
+pub(crate) const ROWS: [Labelled; 8] = [
+    (
         "run above due",
         b"(table 1)\n(task a (run 3) (due 2) (gap 4))\n",
-    )?;
-    show(
-        rt,
+    ),
+    (
         "due above gap",
         b"(table 1)\n(task a (run 3) (due 5) (gap 4))\n",
-    )?;
-    show(
-        rt,
+    ),
+    (
         "run above due above gap",
         b"(table 1)\n(task a (run 6) (due 5) (gap 4))\n",
-    )?;
-    show(
-        rt,
+    ),
+    (
         "due above gap above limit",
         b"(table 1)\n(task a (run 1) (due 200002) (gap 200001))\n",
-    )?;
-    show(
-        rt,
+    ),
+    (
         "name taken",
         b"(table 2)\n(task a (run 1) (due 4) (gap 4))\n(task a (run 1) (due 4) (gap 4))\n",
-    )?;
-    show(
-        rt,
+    ),
+    (
         "name that goes on",
         b"(table 2)\n(task a (run 1) (due 4) (gap 4))\n(task ab (run 1) (due 4) (gap 4))\n",
-    )?;
-    show(
-        rt,
+    ),
+    (
         "name taken before common",
         b"(table 2)\n(task a (run 1) (due 4) (gap 1000))\n(task a (run 1) (due 4) (gap 1001))\n",
-    )?;
-    show(
-        rt,
+    ),
+    (
         "form of a row before another's common",
         b"(table 3)\n(task a (run 1) (due 4) (gap 1000))\n(task b (run 1) (due 4) (gap 1001))\n(task c\n",
-    )
-}
+    ),
+];
 
 /// Lines that have not their form.
-pub(crate) fn forms(rt: &HostRuntime) -> anyhow::Result<()> {
-    show(rt, "no bracket", b"table 1\n")?;
-    show(
-        rt,
+pub(crate) const FORMS: [Labelled; 15] = [
+    ("no bracket", b"table 1\n"),
+    (
         "another keyword",
         b"(tables 1)\n(task a (run 1) (due 4) (gap 4))\n",
-    )?;
-    show(rt, "a shorter keyword", b"(tab 1)\n")?;
-    show(rt, "upper case keyword", b"(Table 1)\n")?;
-    show(rt, "count 0", b"(table 0)\n")?;
-    show(rt, "count 65", b"(table 65)\n")?;
-    show(rt, "count of 7 digits", b"(table 1000000)\n")?;
-    show(rt, "count of 8 digits", b"(table 10000000)\n")?;
-    show(
-        rt,
+    ),
+    ("a shorter keyword", b"(tab 1)\n"),
+    ("upper case keyword", b"(Table 1)\n"),
+    ("count 0", b"(table 0)\n"),
+    ("count 65", b"(table 65)\n"),
+    ("count of 7 digits", b"(table 1000000)\n"),
+    ("count of 8 digits", b"(table 10000000)\n"),
+    (
         "upper case name",
         b"(table 1)\n(task Fan (run 1) (due 4) (gap 4))\n",
-    )?;
-    show(
-        rt,
+    ),
+    (
         "a name that begins with a digit",
         b"(table 1)\n(task 2fan (run 1) (due 4) (gap 4))\n",
-    )?;
-    show(
-        rt,
+    ),
+    (
         "a name of 12",
         b"(table 1)\n(task abcdefghij12 (run 1) (due 4) (gap 4))\n",
-    )?;
-    show(
-        rt,
+    ),
+    (
         "a name of 13",
         b"(table 1)\n(task abcdefghij123 (run 1) (due 4) (gap 4))\n",
-    )?;
-    show(
-        rt,
+    ),
+    (
         "a number that begins with 0",
         b"(table 1)\n(task a (run 01) (due 4) (gap 4))\n",
-    )?;
-    show(
-        rt,
+    ),
+    (
         "a number of 7 digits",
         b"(table 1)\n(task a (run 1234567) (due 1234567) (gap 1234567))\n",
-    )?;
-    show(
-        rt,
+    ),
+    (
         "a number of 8 digits",
         b"(table 1)\n(task a (run 12345678) (due 4) (gap 4))\n",
-    )
-}
+    ),
+];
 
 /// Spaces, line ends and the end of the text.
-pub(crate) fn edges(rt: &HostRuntime) -> anyhow::Result<()> {
-    show(rt, "empty", b"")?;
-    show(
-        rt,
+pub(crate) const EDGES: [Labelled; 10] = [
+    ("empty", b""),
+    (
         "two spaces",
         b"(table 1)\n(task  a (run 1) (due 4) (gap 4))\n",
-    )?;
-    show(
-        rt,
-        "a tab",
-        b"(table 1)\n(task a\t(run 1) (due 4) (gap 4))\n",
-    )?;
-    show(
-        rt,
+    ),
+    ("a tab", b"(table 1)\n(task a\t(run 1) (due 4) (gap 4))\n"),
+    (
         "a carriage return",
         b"(table 1)\r\n(task a (run 1) (due 4) (gap 4))\r\n",
-    )?;
-    show(
-        rt,
+    ),
+    (
         "no final line end",
         b"(table 1)\n(task a (run 1) (due 4) (gap 4))",
-    )?;
-    show(rt, "stops in a keyword", b"(table 1)\n(ta")?;
-    show(rt, "stops in a number", b"(table 1)\n(task a (run 1")?;
-    show(
-        rt,
+    ),
+    ("stops in a keyword", b"(table 1)\n(ta"),
+    ("stops in a number", b"(table 1)\n(task a (run 1"),
+    (
         "more rows than the count",
         b"(table 1)\n(task a (run 1) (due 4) (gap 4))\n(task b (run 1) (due 4) (gap 4))\n",
-    )?;
-    show(
-        rt,
+    ),
+    (
         "fewer rows than the count",
         b"(table 2)\n(task a (run 1) (due 4) (gap 4))\n",
-    )?;
-    show(
-        rt,
+    ),
+    (
         "an empty line after",
         b"(table 1)\n(task a (run 1) (due 4) (gap 4))\n\n",
-    )
-}
+    ),
+];
