@@ -1,9 +1,8 @@
 -- A keyword is read by the word that stands there: up to where the keyword ends, the word and the text go on alike,
 -- since every byte of the keyword could stand in a word. So what the word has in common with the keyword is what the
 -- text has, and that is the place of the first byte that differs.
-use Rattle.std.proofs.Common.{◌≡◌, ℕ, zero, suc, ◌+◌, ◌<◌, ◌≤◌, Bool, true, false, cond, eqb, List, [], ◌∷◌, length, get_or, take, drop, sym, refl, ap, ◌∙◌, true≢false, add-zero, arith, eq-eqb, ne_eqb, eqb-true}
+use Rattle.std.proofs.Common.{◌≡◌, ℕ, zero, suc, ◌+◌, ◌<◌, ◌≤◌, Bool, true, false, cond, eqb, List, [], ◌∷◌, length, take, drop, sym, refl, ap, ◌∙◌, true≢false, add-zero, arith, eq-eqb, ne_eqb, eqb-true}
 use Rattle.std.proofs.ByRecursion.{All-weaker}
-use Rattle.std.proofs.lemmas.List.{drop_more, drop_all}
 use Rattle.std.proofs.lemmas.Bool.Decides.{nat_tests}
 use Rattle.std.specs.List.{AllByRecursion}
 use Rattle.table.specs.Form.{mark}
@@ -12,24 +11,10 @@ use Rattle.table.specs.Scan.{span, word_size}
 use Rattle.table.specs.Steps.{Past, Stuck, Title, shared}
 use Rattle.table.proofs.Along.{past_join, stuck_first, stuck_then, past_mark, stuck_mark, word_first, word_not_first}
 
-pub shared_more : (xs ys : List ℕ) (i : ℕ) → i < length xs → i < length ys → get_or xs i 0 ≡ get_or ys i 0
-    → shared (drop i xs) (drop i ys) ≡ suc (shared (drop (i + 1) xs) (drop (i + 1) ys))
-shared_more xs ys i h k e =
-    let same = eq-eqb (get_or xs i 0) (get_or ys i 0) e in
-    rw (drop_more xs i 0 h, drop_more ys i 0 k, same) refl
-
-pub shared_left : (xs ys : List ℕ) (i : ℕ) → length xs ≤ i → shared (drop i xs) (drop i ys) ≡ 0
-shared_left xs ys i h = rw (drop_all i xs h) refl
-
-pub shared_right : (xs ys : List ℕ) → length ys ≡ 0 → shared xs ys ≡ 0
+shared_right : (xs ys : List ℕ) → length ys ≡ 0 → shared xs ys ≡ 0
 shared_right [] ys h = refl
 shared_right (x ∷ xs) [] h = refl
 shared_right (x ∷ xs) (y ∷ ys) h = absurd (omega arith)
-
-pub shared_apart : (xs ys : List ℕ) (i : ℕ) → i < length xs → i < length ys → (get_or xs i 0 ≡ get_or ys i 0 → ⊥) → shared (drop i xs) (drop i ys) ≡ 0
-shared_apart xs ys i h k ne =
-    let other = ne_eqb (get_or xs i 0) (get_or ys i 0) ne in
-    rw (drop_more xs i 0 h, drop_more ys i 0 k, other) refl
 
 -- a part that ends only where a byte of the keyword could not stand has as much in common with it
 shared_span : (m : ℕ) (s : ℕ → Bool) (bs want : List ℕ) → AllByRecursion (λ c. s c ≡ true) want → length want ≤ m → shared (take (span m s bs) bs) want ≡ shared bs want

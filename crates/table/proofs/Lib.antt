@@ -15,3 +15,5 @@ pub mod Decides
 pub mod Follows
 pub mod Judged
 pub mod Naming
+pub mod Mapped
+pub mod Starts

@@ -1,8 +1,9 @@
 -- A cursor that has moved over the first line and i rows of an accepted text stands at the line of the row i, so it
 -- moves over that line too, and the name that it finds there is the row's, behind how such a line begins.
-use Rattle.std.proofs.Common.{◌≡◌, ℕ, ◌+◌, ◌<◌, ◌≤◌, List, [], ◌∷◌, ◌++◌, length, get_or, take, drop, Ok, sym, refl, ap, ◌∙◌, subst, true≢false, append_assoc, append-nil, arith, take-append-drop}
+use Rattle.std.proofs.Common.{◌≡◌, ℕ, ◌+◌, ◌<◌, ◌≤◌, List, [], ◌∷◌, ◌++◌, length, get_or, take, drop, Ok, Result, sym, refl, ap, ◌∙◌, subst, true≢false, append_assoc, append-nil, arith, take-append-drop}
 use Rattle.std.proofs.ByRecursion.{All-get_or}
 use Rattle.std.proofs.lemmas.List.{drop_more, take_more, take_at, drop_at, drop-drop, length-append, length-map, get_or-map, flat_map_more}
+use Rattle.refusal.specs.declared.cases.Refusal.{Refusal}
 use Rattle.table.specs.Lines.{count_line, row_title, row_line}
 use Rattle.table.specs.Names.{Named}
 use Rattle.table.specs.Readings.{Reads}
@@ -15,9 +16,9 @@ use Rattle.table.proofs.Follows.{row_found, count_found}
 use Rattle.table.proofs.Lawful.{exactly_front, word_front}
 use Rattle.table.proofs.Lined.{Found, past_found, stuck_found}
 
--- a table has as many tasks as its text has rows
-pub table_rows : (text : List ℕ) (table : Table) (ts : List Task) → Reads text (Ok table) → ts ≡ rows_of table → (rows : List RowText) → Accepts text rows → length ts ≡ length rows
-table_rows text table ts reads e rows a = ap length (e ∙ reads.accepted rows a) ∙ length-map rows (λ r. r.task)
+-- a table that was read has as many tasks as its text has rows
+pub table_rows : (text : List ℕ) (r : Result Table Refusal) (table : Table) (ts : List Task) → Reads text r → r ≡ Ok table → ts ≡ rows_of table → (rows : List RowText) → Accepts text rows → length ts ≡ length rows
+table_rows text r table ts reads is e rows a = let told : Reads text (Ok table) = subst (Reads text) is reads in ap length (e ∙ told.accepted rows a) ∙ length-map rows (λ w. w.task)
 
 pub below : (i row m n : ℕ) → i < row → row < m → m ≡ n → i < n
 below i row m n h k e = omega arith
@@ -30,12 +31,6 @@ less row m n h e = omega arith
 
 pub met : (i row : ℕ) → row ≤ i → i ≤ row → i ≡ row
 met i row h k = omega arith
-
-pub room_kept : (p q : ℕ) (bs rest : List ℕ) → q + length rest ≡ p + length bs → p + length bs ≤ 8192 → q + length rest ≤ 8192
-room_kept p q bs rest e h = omega arith
-
-pub text_room : (text : List ℕ) (q : ℕ) (rest : List ℕ) (ws : List (List ℕ)) → (rows : List RowText) → Accepts text rows → Past count_line text 0 ws rest q → q + length rest ≤ 8192
-text_room text q rest ws rows a m = omega (arith, m.room, a.sized.1)
 
 module _ (text : List ℕ) (rows : List RowText) (a : Accepts text rows) where
   first_found : Found count_line text 0 (a.counted.0 ∷ []) (lines rows) (length a.first)

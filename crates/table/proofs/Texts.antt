@@ -10,7 +10,6 @@ use Rattle.table.specs.Lines.{count_line, row_line, decimal}
 use Rattle.table.specs.Drafts.{drafted, common_so_far}
 use Rattle.table.specs.Readings.{contents, reading, Takes}
 use Rattle.table.specs.Scan.{reaches, fitting}
-use Rattle.table.specs.Steps.{Past}
 use Rattle.table.specs.Verdict.{Reading, nothing_read, at, then_ask, lined, rows_from, count_in, counted, verdict}
 use Rattle.table.specs.declared.cursor.Cursor.{Cursor}
 use Rattle.table.specs.declared.rows.Rows.{Rows}
@@ -74,9 +73,6 @@ module _ (bs : List ℕ) (some : 1 ≤ length bs) (few : length bs ≤ 8192) whe
     pub count_start : 1 ≤ count → count ≤ 64 → (r : Reading) → nothing_read ≡ r → verdict bs ≡ rows_from (count - 0) 2 q rest r
     count_start h k r start =
         count_within h k ∙ ap (λ m. rows_from m 2 q rest nothing_read) (sym (sub-zero count)) ∙ ap (λ s. rows_from (count - 0) 2 q rest s) start
-
-pub room_after : (bs rest : List ℕ) (ws : List (List ℕ)) (q : ℕ) → length bs ≤ 8192 → Past count_line bs 0 ws rest q → q + length rest ≤ 8192
-room_after bs rest ws q few a = omega (arith, a.room)
 
 -- one row's line more
 pub rows_more : (n i line p : ℕ) (bs : List ℕ) (r s : Reading) (rest : List ℕ) (q : ℕ) → i < n → lined line p bs r ≡ Ok s

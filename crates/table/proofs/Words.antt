@@ -163,9 +163,9 @@ no_number (Sign m q) bs h other = none_or (word_size a_number bs) (λ some. let 
 no_number (Other q) bs h other = none_or (word_size a_number bs) (λ some. let e = (some_number bs some).1 in let z : ◌≡◌ {A = ℕ} 0 1 = cc in omega arith)
 no_number (End q) bs h other = none_or (word_size a_number bs) (λ some. let e = (some_number bs some).1 in let z : ◌≡◌ {A = ℕ} 0 1 = cc in omega arith)
 
-pub no_mark : (t : Token) (bs : List ℕ) (want : Mark) → lexeme_of t ≡ lexeme bs → ((m : Mark) (q : ℕ) → t ≡ Sign m q → ⊥) → 0 < length bs → get_or bs 0 0 ≡ byte_of want → ⊥
+pub no_mark : (t : Token) (bs : List ℕ) (want : Mark) → lexeme_of t ≡ lexeme bs → ((q : ℕ) → t ≡ Sign want q → ⊥) → 0 < length bs → get_or bs 0 0 ≡ byte_of want → ⊥
 no_mark (Word w q) bs want h other some is = let e = some_mark want bs some is in let z : ◌≡◌ {A = ℕ} 0 1 = cc in omega arith
 no_mark (Number d q v) bs want h other some is = let e = some_mark want bs some is in let z : ◌≡◌ {A = ℕ} 0 1 = cc in omega arith
-no_mark (Sign m q) bs want h other some is = other m q refl
+no_mark (Sign m q) bs want h other some is = let e = some_mark want bs some is in let same : m ≡ want = cc in other q (ap (λ x. Sign x q) same)
 no_mark (Other q) bs want h other some is = let e = some_mark want bs some is in let z : ◌≡◌ {A = ℕ} 0 1 = cc in omega arith
 no_mark (End q) bs want h other some is = let e = some_mark want bs some is in let z : ◌≡◌ {A = ℕ} 0 1 = cc in omega arith

@@ -1,7 +1,7 @@
 -- What a part of the reader says of the pieces that it read, whatever pieces come after. Assumes nothing.
 --   Past    the pieces stand at the front, with these words: what is left, and where
 --   Stuck   they do not: the place of the first byte that they do not allow
-use Rattle.std.specs.Prelude.{◌≡◌, ℕ, suc, ◌+◌, ◌^◌, ◌<◌, ◌≤◌, true, false, cond, List, [], ◌∷◌, ◌++◌, length, drop, ◌==◌}
+use Rattle.std.specs.Prelude.{◌≡◌, ℕ, suc, ◌+◌, ◌≤◌, true, false, cond, List, [], ◌∷◌, ◌++◌, length, drop, ◌==◌}
 use Rattle.std.specs.List.{AllByRecursion}
 use Rattle.table.specs.Lines.{letter, decimal}
 use Rattle.table.specs.Form.{Piece}
@@ -26,10 +26,6 @@ Moves ps c ws d = Past ps c.rest.now c.place ws d.rest.now d.place
 
 abbrev pub Halts : List Piece → Cursor → ℕ → Type 0
 Halts ps c q = Stuck ps c.rest.now c.place q
-
--- places in the rest of the text are numbers of the machine
-abbrev pub Room : Cursor → Type 0
-Room c = c.place + length c.rest.now < 2 ^ 64
 
 -- the same over a number, of which only the value is handed on; no number is 0
 abbrev pub MovesBy : List Piece → Cursor → ℕ → Cursor → Type 0

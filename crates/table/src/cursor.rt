@@ -1,114 +1,12 @@
 //! The reader's cursor: what is left of the text, and its place. It only moves on.
-ghost use Rattle.std.specs.Prelude.{◌≡◌, ℕ, ◌+◌, ◌^◌, ◌<◌, ◌≤◌, [], ◌∷◌, length, drop, codes, MatchResult};
-ghost use Rattle.table.specs.Form.{mark, word};
-ghost use Rattle.table.specs.Lines.{a_name, a_number, a_field, exactly, decimal};
-ghost use Rattle.table.specs.Steps.{Moves, MovesBy, Halts, Room, Title, shared};
-ghost use Rattle.table.specs.Tokens.{byte_of};
+ghost use Rattle.std.specs.Prelude.{ℕ, ◌+◌, ◌^◌, ◌<◌, length};
 
-use crate::token::{Mark, Token, first_token};
+mod moves;
 
-/// How many bytes at the front the two have in common.
-fn common_front(left: &[u8], right: &[u8]) -> usize
-    ensures value { result ≡ shared left.now right.now }
-    ensures bound { (result ≤ length left.now) × (result ≤ length right.now) }
-{
-    let mut count = 0;
-    while count < left.len() && count < right.len() && left[count] == right[count] {
-        count += 1;
-    }
-    count
-}
-
-/// What is left of the text, and the place where that begins.
+/// What is left of the text, and the place where that begins. Places in the rest are numbers of the machine.
 #[derive(Clone, Copy)]
 pub struct Cursor<'a> {
     pub rest: &'a [u8],
     pub place: usize,
-}
-
-impl<'a> Cursor<'a> {
-    /// The cursor so many bytes on.
-    fn after(self, count: usize) -> Cursor<'a>
-        requires { (Room self) × (count ≤ length self.rest.now) }
-        ensures rest { result.rest.now ≡ drop count self.entry.rest.now }
-        ensures place { result.place ≡ self.entry.place + count }
-    {
-        Cursor {
-            rest: &self.rest[count..],
-            place: self.place + count,
-        }
-    }
-
-    /// Reads a mark.
-    pub(crate) fn mark(self, want: Mark) -> Result<Cursor<'a>, usize>
-        requires { Room self }
-        ensures { MatchResult result (λ d. Moves (mark (byte_of want) ∷ []) self.entry [] d) (λ q. Halts (mark (byte_of want) ∷ []) self.entry q) }
-    {
-        match first_token(self.rest, self.place) {
-            Token::Sign(found, _) => {
-                if found == want {
-                    Ok(self.after(1))
-                } else {
-                    Err(self.place)
-                }
-            }
-            _ => Err(self.place),
-        }
-    }
-
-    /// Reads a keyword, by the word that stands there.
-    pub(crate) fn keyword(self, want: &[u8]) -> Result<Cursor<'a>, usize>
-        requires room { Room self }
-        requires title { Title want.now }
-        ensures { MatchResult result (λ d. Moves (exactly want.now) self.entry [] d) (λ q. Halts (exactly want.now) self.entry q) }
-    {
-        match first_token(self.rest, self.place) {
-            Token::Word(word, at) => {
-                let same = common_front(word, want);
-                if same == want.len() {
-                    Ok(self.after(same))
-                } else {
-                    Err(at + same)
-                }
-            }
-            _ => Err(self.place),
-        }
-    }
-
-    /// Reads a name.
-    pub(crate) fn name(self) -> Result<(&'a [u8], Cursor<'a>), usize>
-        requires { Room self }
-        ensures { MatchResult result (λ v. Moves (word a_name ∷ []) self.entry (v.0.now ∷ []) v.1) (λ q. Halts (word a_name ∷ []) self.entry q) }
-    {
-        match first_token(self.rest, self.place) {
-            Token::Word(word, _) => Ok((word, self.after(word.len()))),
-            _ => Err(self.place),
-        }
-    }
-
-    /// Reads a number.
-    pub(crate) fn number(self) -> Result<(u32, Cursor<'a>), usize>
-        requires { Room self }
-        ensures { MatchResult result (λ v. MovesBy (word a_number ∷ []) self.entry v.0 v.1) (λ q. Halts (word a_number ∷ []) self.entry q) }
-    {
-        match first_token(self.rest, self.place) {
-            Token::Number(digits, _, value) => Ok((value, self.after(digits.len()))),
-            _ => Err(self.place),
-        }
-    }
-
-    /// Reads a field: a title and its number, in brackets, after a space.
-    pub(crate) fn field(self, title: &[u8]) -> Result<(u32, Cursor<'a>), usize>
-        requires room { Room self }
-        requires title { Title title.now }
-        ensures { MatchResult result (λ v. MovesBy (a_field title.now) self.entry v.0 v.1) (λ q. Halts (a_field title.now) self.entry q) }
-    {
-        let bracket = self.mark(Mark::Space)?;
-        let named = bracket.mark(Mark::Open)?;
-        let gap = named.keyword(title)?;
-        let digits = gap.mark(Mark::Space)?;
-        let (value, close) = digits.number()?;
-        let next = close.mark(Mark::Close)?;
-        Ok((value, next))
-    }
+    ghost room: { place + length rest.now < 2 ^ 64 },
 }

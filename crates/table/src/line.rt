@@ -1,7 +1,7 @@
 //! The two kinds of line: the first, which has the count of rows, and a row's.
 ghost use Rattle.std.specs.Prelude.{◌≡◌, ℕ, ◌+◌, ◌^◌, ◌<◌, length, MatchResult};
 ghost use Rattle.table.specs.Lines.{count_line, row_line};
-ghost use Rattle.table.specs.Steps.{MovesBy, Halts, Room};
+ghost use Rattle.table.specs.Steps.{MovesBy, Halts};
 ghost use Rattle.table.specs.RowLines.{MovesOver};
 
 use crate::cursor::Cursor;
@@ -18,7 +18,6 @@ pub struct Row<'a> {
 impl<'a> Cursor<'a> {
     /// Reads the first line: `(table 3)`.
     pub(crate) fn count_line(self) -> Result<(u32, Cursor<'a>), usize>
-        requires { Room self }
         ensures { MatchResult result (λ v. MovesBy count_line self.entry v.0 v.1) (λ q. Halts count_line self.entry q) }
     {
         let title = self.mark(Mark::Open)?;
@@ -32,7 +31,6 @@ impl<'a> Cursor<'a> {
 
     /// Reads a row's line: `(task head (run 8) (due 16) (gap 16))`.
     pub(crate) fn row_line(self) -> Result<(Row<'a>, Cursor<'a>), usize>
-        requires { Room self }
         ensures { MatchResult result (λ v. MovesOver self.entry v.0 v.1) (λ q. Halts row_line self.entry q) }
     {
         let title = self.mark(Mark::Open)?;

@@ -9,30 +9,14 @@ use crate::read::read;
 pub fn name_of(text: &[u8], row: usize) -> Option<&[u8]>
     ensures { Names text.now row result }
 {
-    let rows = match read(text) {
-        Ok(table) => table.tasks().len(),
-        Err(_) => return None,
-    };
+    let rows = read(text).ok()?.tasks().len();
     if row >= rows {
         return None;
     }
-    let mut at = match (Cursor {
-        rest: text,
-        place: 0,
-    })
-    .count_line()
-    {
-        Ok((_, first_row)) => first_row,
-        Err(_) => return None,
-    };
+    let (_, mut at) = Cursor::new(text).count_line().ok()?;
     for before in 0..row {
-        at = match at.row_line() {
-            Ok((_, next)) => next,
-            Err(_) => return None,
-        };
+        (_, at) = at.row_line().ok()?;
     }
-    match at.row_line() {
-        Ok((found, _)) => Some(found.name),
-        Err(_) => None,
-    }
+    let (found, _) = at.row_line().ok()?;
+    Some(found.name)
 }

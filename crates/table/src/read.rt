@@ -3,7 +3,6 @@ ghost use Rattle.std.specs.Prelude.{◌≡◌, ℕ, ◌+◌, ◌^◌, ◌<◌, �
 ghost use Rattle.table.specs.Drafts.{drafted};
 ghost use Rattle.table.specs.Limits.{most_rows};
 ghost use Rattle.table.specs.Readings.{contents, reading, Takes, Reads};
-ghost use Rattle.table.specs.Steps.{Room};
 ghost use Rattle.table.specs.Verdict.{taken, limited, lined};
 
 use crate::cursor::Cursor;
@@ -24,12 +23,7 @@ const MOST_GAP: u32 = 100_000;
 fn name_taken(names: &[&[u8]], name: &[u8]) -> bool
     ensures { result ≡ taken name.now (contents names.now) }
 {
-    for other in names {
-        if *other == name {
-            return true;
-        }
-    }
-    false
+    names.contains(&name)
 }
 
 /// The checks of a row's numbers.
@@ -55,14 +49,12 @@ fn next_row<'a>(
     names: &[&'a [u8]],
     draft: &mut Rows,
 ) -> Result<(&'a [u8], Cursor<'a>), Refusal>
-    requires room { Room at }
-    requires few { length (drafted draft.old) < most_rows }
+    requires { length (drafted draft.old) < most_rows }
     ensures { MatchResult result (λ v. Takes line at.entry (contents names.now) draft.old v.0.now v.1 draft.new) (λ e. lined line at.entry.place at.entry.rest.now (reading (contents names.now) draft.old) ≡ Err e) }
 {
-    let (row, next) = match at.row_line() {
-        Ok(found) => found,
-        Err(place) => return Err(Refusal::LineForm(Position { line, place })),
-    };
+    let (row, next) = at
+        .row_line()
+        .map_err(|place| Refusal::LineForm(Position { line, place }))?;
     let here = Position {
         line,
         place: at.place,
@@ -82,15 +74,9 @@ pub fn read(text: &[u8]) -> Result<Table, Refusal>
     if text.len() < 1 || text.len() > MOST_BYTES {
         return Err(Refusal::TextLength);
     }
-    let (count, first_row) = match (Cursor {
-        rest: text,
-        place: 0,
-    })
-    .count_line()
-    {
-        Ok(line) => line,
-        Err(place) => return Err(Refusal::LineForm(Position { line: 1, place })),
-    };
+    let (count, first_row) = Cursor::new(text)
+        .count_line()
+        .map_err(|place| Refusal::LineForm(Position { line: 1, place }))?;
     if count < 1 || count > MOST_COUNT {
         return Err(Refusal::RowCount(Position { line: 1, place: 0 }));
     }

@@ -1,8 +1,7 @@
-use Rattle.std.proofs.Common.{◌≡◌, ◌+◌, ◌≤◌, List, length, take, drop}
+use Rattle.std.proofs.Common.{◌≡◌, List, take, drop}
 use Rattle.table.specs.Texts.{RowText, lines, place_after, Accepts}
 use Rattle.table.proofs.name.name_of.Given as goal
 
 abbrev pub invariant-loop-before : goal.invariant-loop-before
 invariant-loop-before l =
-    ((rows : List RowText) (a : Accepts l.text rows) → (l.at.rest.now ≡ lines (drop l.before rows)) × (l.at.place ≡ place_after a.first (take l.before rows)))
-    × (l.at.place + length l.at.rest.now ≤ 8192)
+    (rows : List RowText) (a : Accepts l.text rows) → (l.at.rest.now ≡ lines (drop l.before rows)) × (l.at.place ≡ place_after a.first (take l.before rows))

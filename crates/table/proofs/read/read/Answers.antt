@@ -1,4 +1,4 @@
-use Rattle.std.proofs.Common.{◌+◌, ◌≤◌, [], length, take, Ok, Err, sym, refl, ap, ◌∙◌, subst, ⊎_elim, zero-add, length-set}
+use Rattle.std.proofs.Common.{rules, ◌≡◌, ◌+◌, [], length, take, Ok, Err, sym, refl, ap, ◌∙◌, ⊎_elim, zero-add, length-set}
 use Rattle.std.proofs.lemmas.Result.{err_from_is_err_and}
 use Rattle.refusal.specs.declared.cases.Refusal.TheVariants.{TextLength, LineForm, RowCount, TextAfter}
 use Rattle.table.specs.Lines.{count_line}
@@ -6,7 +6,9 @@ use Rattle.table.specs.Readings.{contents}
 use Rattle.table.specs.Verdict.{at}
 use Rattle.table.proofs.Judged.{judged}
 use Rattle.table.proofs.Lined.{past_found, stuck_found}
-use Rattle.table.proofs.Texts.{too_short, too_long, first_form, count_low, count_high, count_start, room_after, row_refused, row_taken, text_after, text_ends, slot_free, same_parts}
+use Rattle.table.proofs.Mapped.{mapped_ok, mapped_err}
+use Rattle.table.proofs.Starts.{first_moves, first_halts}
+use Rattle.table.proofs.Texts.{too_short, too_long, first_form, count_low, count_high, count_start, row_refused, row_taken, text_after, text_ends, slot_free, same_parts}
 use Rattle.table.proofs.read.read.Goals as goal
 
 pub returns-then-text-lt1 : goal.returns-then-text-lt1
@@ -14,16 +16,21 @@ returns-then-text-lt1 c =
     judged c.args.text.now (Err TextLength)
     (⊎_elim (λ h. too_short c.args.text.now h) (λ h. too_long c.args.text.now h.1) c.then-text-lt1.either)
 
-pub returns-in-Err : goal.returns-in-Err
-returns-in-Err c =
-    let f = stuck_found count_line c.args.text.now 0 c.in-Err.place c.in-Err.ensures in
-    judged c.args.text.now (Err (LineForm (at 1 c.in-Err.place)))
-    (first_form c.args.text.now c.if-text-lt1.false c.if-text-gt-MOST_BYTES.false c.in-Err.place f.0 (sym (zero-add _) ∙ f.1))
+pub returns-in_err-count : goal.returns-in_err-count
+returns-in_err-count c =
+    let p = err_from_is_err_and c.from_residual.result c.from_residual.ensures.1 in
+    let m = mapped_err _ _ _ c.count_line.result c.map_err.result c.in_err-count.field-0.0 c.map_err.ensures.cases c.in_err-count.was c.count_line.ensures in
+    let f = stuck_found count_line c.args.text.now 0 m.0 (first_halts c.args.text.now c.new.result c.new.ensures.rest c.new.ensures.place m.0 m.1) in
+    let e : c.in_err-count.field-0.0 ≡ LineForm (at 1 m.0) = search (rules, m.2) in
+    rw (p.1, p.2, e)
+    (judged c.args.text.now (Err (LineForm (at 1 m.0)))
+    (first_form c.args.text.now c.if-text-lt1.false c.if-text-gt-MOST_BYTES.false m.0 f.0 (sym (zero-add _) ∙ f.1)))
 
 pub returns-then-count-lt1 : goal.returns-then-count-lt1
 returns-then-count-lt1 c =
-    let v = c.in-Ok.ensures in
-    let found = past_found _ _ _ _ _ _ v.2 in
+    let v = mapped_ok _ _ _ c.count_line.result c.map_err.result (c.in_ok-count.count, c.in_ok-count.first_row) c.map_err.ensures.cases c.in_ok-count.was c.count_line.ensures in
+    let moves = first_moves c.args.text.now c.new.result c.new.ensures.rest c.new.ensures.place _ c.in_ok-count.first_row v in
+    let found = past_found _ _ _ _ _ _ moves in
     judged c.args.text.now (Err (RowCount (at 1 0)))
     (⊎_elim
     (λ h. count_low c.args.text.now c.if-text-lt1.false c.if-text-gt-MOST_BYTES.false _ _ _ _ v.1 found h)
@@ -32,40 +39,39 @@ returns-then-count-lt1 c =
 
 pub loop-row-init : goal.loop-row-init
 loop-row-init c =
-    let v = c.in-Ok.ensures in
+    let v = mapped_ok _ _ _ c.count_line.result c.map_err.result (c.in_ok-count.count, c.in_ok-count.first_row) c.map_err.ensures.cases c.in_ok-count.was c.count_line.ensures in
+    let moves = first_moves c.args.text.now c.new.result c.new.ensures.rest c.new.ensures.place _ c.in_ok-count.first_row v in
     let fresh = c.new-draft.ensures in
     let bs = c.args.text.now in (
-      count_start bs c.if-text-lt1.false c.if-text-gt-MOST_BYTES.false _ _ _ _ v.1 (past_found _ _ _ _ _ _ v.2) c.if-count-lt1.false c.if-count-gt-MOST_COUNT.false _ (same_parts [] [] _ 1 _ fresh.tasks fresh.common),
+      count_start bs c.if-text-lt1.false c.if-text-gt-MOST_BYTES.false _ _ _ _ v.1 (past_found _ _ _ _ _ _ moves) c.if-count-lt1.false c.if-count-gt-MOST_COUNT.false _ (same_parts [] [] _ 1 _ fresh.tasks fresh.common),
       ap length fresh.tasks,
       refl,
-      room_after bs _ _ _ c.if-text-gt-MOST_BYTES.false v.2,
     )
 
 pub returns-in_err-name : goal.returns-in_err-name
 returns-in_err-name c =
-    let p = err_from_is_err_and c.from_residual.result c.from_residual.ensures.1 in
-    rw (p.1, p.2) (judged c.args.text.now (Err c.in_err-name.field-0.0) (row_refused c.args.text.now c.in-Ok.line.0 c.loop-row.row c.loop-row.at c.loop-row.names c.loop-row.draft c.loop-row.invariant.0 c.loop-row-test.true c.in_err-name.field-0.0 c.in_err-name.ensures))
+    let p = err_from_is_err_and c.from_residual-in_err-name.result c.from_residual-in_err-name.ensures.1 in
+    rw (p.1, p.2) (judged c.args.text.now (Err c.in_err-name.field-0.0) (row_refused c.args.text.now c.in_ok-count.count c.loop-row.row c.loop-row.at c.loop-row.names c.loop-row.draft c.loop-row.invariant.0 c.loop-row-test.true c.in_err-name.field-0.0 c.in_err-name.ensures))
 
 pub loop-row-preserved : goal.loop-row-preserved
 loop-row-preserved c =
     let i = c.loop-row.row in
     let t = c.in_ok-name.ensures in
-    let room = slot_free c.in-Ok.line.0 i c.loop-row.names c.loop-row-test.true c.if-count-gt-MOST_COUNT.false c.loop-row.invariant.2 in (
-      row_taken c.args.text.now c.in-Ok.line.0 i c.loop-row.at c.loop-row.names c.loop-row.draft c.loop-row.invariant.0 c.loop-row-test.true room c.in_ok-name.name c.in_ok-name.next c.next_row.new.draft t,
+    let room = slot_free c.in_ok-count.count i c.loop-row.names c.loop-row-test.true c.if-count-gt-MOST_COUNT.false c.loop-row.invariant.2 in (
+      row_taken c.args.text.now c.in_ok-count.count i c.loop-row.at c.loop-row.names c.loop-row.draft c.loop-row.invariant.0 c.loop-row-test.true room c.in_ok-name.name c.in_ok-name.next c.next_row.new.draft t,
       t.more ∙ ap (λ n. n + 1) c.loop-row.invariant.1,
       length-set c.loop-row.names i c.in_ok-name.name ∙ c.loop-row.invariant.2,
-      subst (λ n. n ≤ 8192) (sym t.room) c.loop-row.invariant.3,
     )
 
 pub returns-then-at-gt0 : goal.returns-then-at-gt0
 returns-then-at-gt0 c =
-    judged c.args.text.now (Err (TextAfter (at (c.in-Ok.line.0 + 2) c.loop-row.at.place)))
-    (text_after c.args.text.now c.in-Ok.line.0 c.loop-row.row c.loop-row.at c.loop-row.names c.loop-row.draft c.loop-row.invariant.0 c.loop-row-test.false c.loop-row.auto.row-end c.if-at-gt0.true)
+    judged c.args.text.now (Err (TextAfter (at (c.in_ok-count.count + 2) c.loop-row.at.place)))
+    (text_after c.args.text.now c.in_ok-count.count c.loop-row.row c.loop-row.at c.loop-row.names c.loop-row.draft c.loop-row.invariant.0 c.loop-row-test.false c.loop-row.auto.row-end c.if-at-gt0.true)
 
 pub returns : goal.returns
 returns c =
     let d = c.finish.ensures in
     judged c.args.text.now (Ok c.finish.result) (
       contents (take c.loop-row.row c.loop-row.names),
-      text_ends c.args.text.now c.in-Ok.line.0 c.loop-row.row c.loop-row.at c.loop-row.names c.loop-row.draft c.loop-row.invariant.0 c.loop-row-test.false c.if-at-gt0.false _ _ d.tasks d.common,
+      text_ends c.args.text.now c.in_ok-count.count c.loop-row.row c.loop-row.at c.loop-row.names c.loop-row.draft c.loop-row.invariant.0 c.loop-row-test.false c.if-at-gt0.false _ _ d.tasks d.common,
     )

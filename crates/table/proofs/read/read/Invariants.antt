@@ -1,4 +1,4 @@
-use Rattle.std.proofs.Common.{◌≡◌, ◌+◌, ◌-◌, ◌≤◌, length, take}
+use Rattle.std.proofs.Common.{◌≡◌, ◌+◌, ◌-◌, length, take}
 use Rattle.table.specs.Drafts.{drafted}
 use Rattle.table.specs.Readings.{contents, reading}
 use Rattle.table.specs.Verdict.{rows_from, verdict}
@@ -9,4 +9,3 @@ invariant-loop-row l =
     (verdict l.text ≡ rows_from (l.count - l.row) (l.row + 2) l.at.place l.at.rest.now (reading (contents (take l.row l.names)) l.draft))
     × (length (drafted l.draft) ≡ l.row)
     × (length l.names ≡ 64)
-    × (l.at.place + length l.at.rest.now ≤ 8192)

@@ -8,7 +8,7 @@ pub after-requires : goal.after-requires
 after-requires c =
     let bs = c.args.self.rest.now in
     let w = word_token bs c.in-Word.word.now c.in-Word.ensures.value in
-    (c.requires, omega (arith, w.2, word_within a_name bs))
+    omega (arith, w.2, word_within a_name bs)
 
 pub returns-in-Word : goal.returns-in-Word
 returns-in-Word c =

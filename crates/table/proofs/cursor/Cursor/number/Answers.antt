@@ -8,7 +8,7 @@ pub after-requires : goal.after-requires
 after-requires c =
     let bs = c.args.self.rest.now in
     let w = number_token bs c.in-Number.digits.now c.in-Number.value c.in-Number.ensures.value in
-    (c.requires, omega (arith, w.2, word_within a_number bs))
+    omega (arith, w.2, word_within a_number bs)
 
 pub returns-in-Number : goal.returns-in-Number
 returns-in-Number c =

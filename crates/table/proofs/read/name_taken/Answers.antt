@@ -1,0 +1,13 @@
+use Rattle.std.proofs.Common.{◌≡◌, ℕ, ◌||◌, List, [], ◌∷◌, refl, ap, ◌∙◌, Bor}
+use Rattle.std.specs.List.{list_any}
+use Rattle.std.specs.Str.{bytes_eq}
+use Rattle.table.specs.Readings.{contents}
+use Rattle.table.specs.Verdict.{taken}
+use Rattle.table.proofs.read.name_taken.Goals as goal
+
+any_taken : (name : List ℕ) (names : List (Bor (List ℕ))) → list_any (λ other. bytes_eq other.now name) names ≡ taken name (contents names)
+any_taken name [] = refl
+any_taken name (other ∷ names) = ap (λ b. bytes_eq other.now name || b) (any_taken name names)
+
+pub returns : goal.returns
+returns c = c.contains.ensures.value ∙ any_taken c.args.name.now c.args.names.now
