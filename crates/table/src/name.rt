@@ -14,7 +14,7 @@ pub fn name_of(text: &[u8], row: usize) -> Option<&[u8]>
         return None;
     }
     let (_, mut at) = Cursor::new(text).count_line().ok()?;
-    for before in 0..row {
+    for _ in 0..row {
         (_, at) = at.row_line().ok()?;
     }
     let (found, _) = at.row_line().ok()?;
