@@ -1,6 +1,6 @@
 -- The verdict follows the reader through the text: after each line, what is left to ask of the rest gives the verdict
 -- on the whole.
-use Rattle.std.proofs.Common.{◌≡◌, ℕ, suc, ◌+◌, ◌-◌, ◌<◌, ◌≤◌, false, cond, ◌&&◌, leb, List, [], ◌∷◌, ◌++◌, length, get_or, take, drop, set, Ok, Err, sym, refl, ap, ◌∙◌, subst, arith, Bor, eq-eqb, ne_eqb, le-leb}
+use Rattle.std.proofs.Common.{◌≡◌, ℕ, suc, ◌+◌, ◌-◌, ◌<◌, ◌≤◌, false, cond, ◌&&◌, leb, List, [], ◌∷◌, ◌++◌, length, get_or, take, drop, set, Ok, Err, sym, refl, ap, ◌∙◌, arith, Bor, eq-eqb, ne_eqb, le-leb}
 use native.Mathlib.Nat.{sub-zero}
 use borrow.Author.Tests.{lt-leb}
 use Rattle.std.proofs.lemmas.List.{take_more_set}
@@ -124,18 +124,15 @@ same_parts names ts us a b e h = cc
 -- the reader before its row i: what is left to ask gives the verdict
 module _ (bs : List ℕ) (n i : ℕ) (at_row : Cursor) (names : List (Bor (List ℕ))) (d : Rows)
     (so_far : verdict bs ≡ rows_from (n - i) (i + 2) at_row.place at_row.rest.now (reading (contents (take i names)) d)) where
-  pub row_refused : i < n → (e : Refusal) → lined (i + 2) at_row.place at_row.rest.now (reading (contents (take (i - 0) names)) d) ≡ Err e → verdict bs ≡ Err e
-  row_refused more e stop =
-      let here = subst (λ k. lined (i + 2) at_row.place at_row.rest.now (reading (contents (take k names)) d) ≡ Err e) (sub-zero i) stop in
-      so_far ∙ rows_stop n i (i + 2) at_row.place at_row.rest.now (reading (contents (take i names)) d) e more here
+  pub row_refused : i < n → (e : Refusal) → lined (i + 2) at_row.place at_row.rest.now (reading (contents (take i names)) d) ≡ Err e → verdict bs ≡ Err e
+  row_refused more e stop = so_far ∙ rows_stop n i (i + 2) at_row.place at_row.rest.now (reading (contents (take i names)) d) e more stop
 
-  pub row_taken : i < n → i < length names → (name : Bor (List ℕ)) (next : Cursor) (after : Rows) → Takes (i + 2) at_row (contents (take (i - 0) names)) d name.now next after
+  pub row_taken : i < n → i < length names → (name : Bor (List ℕ)) (next : Cursor) (after : Rows) → Takes (i + 2) at_row (contents (take i names)) d name.now next after
       → verdict bs ≡ rows_from (n - (i + 1)) (i + 1 + 2) next.place next.rest.now (reading (contents (take (i + 1) (set names i name))) after)
   row_taken more room name next after t =
-      let here = subst (λ k. Takes (i + 2) at_row (contents (take k names)) d name.now next after) (sub-zero i) t in
       let line : i + 2 + 1 ≡ i + 1 + 2 = omega arith in
       so_far
-      ∙ rows_more n i (i + 2) at_row.place at_row.rest.now (reading (contents (take i names)) d) (reading (contents (take i names) ++ (name.now ∷ [])) after) next.rest.now next.place more here.yes here.place here.rest
+      ∙ rows_more n i (i + 2) at_row.place at_row.rest.now (reading (contents (take i names)) d) (reading (contents (take i names) ++ (name.now ∷ [])) after) next.rest.now next.place more t.yes t.place t.rest
       ∙ ap (λ m. rows_from (n - (i + 1)) m next.place next.rest.now (reading (contents (take i names) ++ (name.now ∷ [])) after)) line
       ∙ ap (λ xs. rows_from (n - (i + 1)) (i + 1 + 2) next.place next.rest.now (reading xs after)) (sym (names_stored names i name room))
 

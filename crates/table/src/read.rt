@@ -13,9 +13,6 @@ use refusal::cases::{Position, Refusal};
 /// The most bytes that a text may have.
 pub const MOST_BYTES: usize = 8_192;
 
-/// The most rows, as the count in the first line has them.
-const MOST_COUNT: u32 = MOST_ROWS as u32;
-
 /// The most ticks that a gap may have.
 const MOST_GAP: u32 = 100_000;
 
@@ -78,20 +75,23 @@ pub fn read(text: &[u8]) -> Result<Table, Refusal>
     let (count, first_row) = Cursor::new(text)
         .count_line()
         .map_err(|place| Refusal::LineForm(Position { line: 1, place }))?;
-    if count < 1 || count > MOST_COUNT {
+    // The cast widens, and usize has no From<u32>.
+    let rows = count as usize;
+    if rows < 1 || rows > MOST_ROWS {
         return Err(Refusal::RowCount(Position { line: 1, place: 0 }));
     }
+    // As many names as rows so far, which `row` counts: a vector would count them once more.
     let mut names = [text; MOST_ROWS];
     let mut draft = Rows::new();
     let mut at = first_row;
-    for row in 0..count as usize {
-        let (name, next) = next_row(at, row + 2, &names[0..row], &mut draft)?;
+    for row in 0..rows {
+        let (name, next) = next_row(at, row + 2, &names[..row], &mut draft)?;
         names[row] = name;
         at = next;
     }
     if at.rest.len() > 0 {
         return Err(Refusal::TextAfter(Position {
-            line: count as usize + 2,
+            line: rows + 2,
             place: at.place,
         }));
     }

@@ -41,6 +41,7 @@ impl Rows {
         }
         self.list[self.count] = task;
         self.count += 1;
+        // It is at most MOST_COMMON here, so the cast keeps it.
         self.common = common as u32;
         Ok(())
     }

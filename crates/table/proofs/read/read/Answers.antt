@@ -26,8 +26,8 @@ returns-in_err-count c =
     (judged c.args.text.now (Err (LineForm (at 1 m.0)))
     (first_form c.args.text.now c.if-text-lt1.false c.if-text-gt-MOST_BYTES.false m.0 f.0 (sym (zero-add _) ∙ f.1)))
 
-pub returns-then-count-lt1 : goal.returns-then-count-lt1
-returns-then-count-lt1 c =
+pub returns-then-rows-lt1 : goal.returns-then-rows-lt1
+returns-then-rows-lt1 c =
     let v = mapped_ok _ _ _ c.count_line.result c.map_err.result (c.in_ok-count.count, c.in_ok-count.first_row) c.map_err.ensures.cases c.in_ok-count.was c.count_line.ensures in
     let moves = first_moves c.args.text.now c.new.result c.new.ensures.rest c.new.ensures.place _ c.in_ok-count.first_row v in
     let found = past_found _ _ _ _ _ _ moves in
@@ -35,7 +35,7 @@ returns-then-count-lt1 c =
     (⊎_elim
     (λ h. count_low c.args.text.now c.if-text-lt1.false c.if-text-gt-MOST_BYTES.false _ _ _ _ v.1 found h)
     (λ h. count_high c.args.text.now c.if-text-lt1.false c.if-text-gt-MOST_BYTES.false _ _ _ _ v.1 found h.1)
-    c.then-count-lt1.either)
+    c.then-rows-lt1.either)
 
 pub loop-row-init : goal.loop-row-init
 loop-row-init c =
@@ -43,7 +43,7 @@ loop-row-init c =
     let moves = first_moves c.args.text.now c.new.result c.new.ensures.rest c.new.ensures.place _ c.in_ok-count.first_row v in
     let fresh = c.new-draft.ensures in
     let bs = c.args.text.now in (
-      count_start bs c.if-text-lt1.false c.if-text-gt-MOST_BYTES.false _ _ _ _ v.1 (past_found _ _ _ _ _ _ moves) c.if-count-lt1.false c.if-count-gt-MOST_COUNT.false _ (same_parts [] [] _ 1 _ fresh.tasks fresh.common),
+      count_start bs c.if-text-lt1.false c.if-text-gt-MOST_BYTES.false _ _ _ _ v.1 (past_found _ _ _ _ _ _ moves) c.if-rows-lt1.false c.if-rows-gt-MOST_ROWS.false _ (same_parts [] [] _ 1 _ fresh.tasks fresh.common),
       ap length fresh.tasks,
       refl,
     )
@@ -57,7 +57,7 @@ pub loop-row-preserved : goal.loop-row-preserved
 loop-row-preserved c =
     let i = c.loop-row.row in
     let t = c.in_ok-name.ensures in
-    let room = slot_free c.in_ok-count.count i c.loop-row.names c.loop-row-test.true c.if-count-gt-MOST_COUNT.false c.loop-row.invariant.2 in (
+    let room = slot_free c.in_ok-count.count i c.loop-row.names c.loop-row-test.true c.if-rows-gt-MOST_ROWS.false c.loop-row.invariant.2 in (
       row_taken c.args.text.now c.in_ok-count.count i c.loop-row.at c.loop-row.names c.loop-row.draft c.loop-row.invariant.0 c.loop-row-test.true room c.in_ok-name.name c.in_ok-name.next c.next_row.new.draft t,
       t.more ∙ ap (λ n. n + 1) c.loop-row.invariant.1,
       length-set c.loop-row.names i c.in_ok-name.name ∙ c.loop-row.invariant.2,
