@@ -11,14 +11,16 @@ abbrev pub top_up_reach : ℕ
 top_up_reach = 1000000
 
 -- where the alarm below rang and a rest is left, it is set again; else it stays as its pass left it
-abbrev pub Again : {S : Type 0} → Ghosts S → (rang : Bool) → S → ℕ → S → Type 0
-Again below true z rest y = (1 ≤ rest → (b : ℕ) × SetTo below z rest b y) × (rest ≡ 0 → y ≡ z)
+abbrev pub Again : {S : Type 0} → Ghosts S → (rang : Bool) → S → Option ℕ → S → Type 0
+Again below true z (Some rest) y = (b : ℕ) × SetTo below z rest b y
+Again below true z None y = y ≡ z
 Again below false z rest y = y ≡ z
 
 -- the pass is handed on, whatever is left
-abbrev pub Resumed : {S : Type 0} → Ghosts S → S → ℕ → S → Type 0
+abbrev pub Resumed : {S : Type 0} → Ghosts S → S → Option ℕ → S → Type 0
 Resumed {S} below x rest y = (z : S) × (Passed below x z × Again below (rings (below.meaning x)) z rest y)
 
-abbrev pub Covers : Option ℕ → ℕ → Type 0
+abbrev pub Covers : (below left : Option ℕ) → Type 0
 Covers None left = Unit {0}
-Covers (Some b) left = b ≤ left
+Covers (Some b) None = ⊥
+Covers (Some b) (Some left) = b ≤ left

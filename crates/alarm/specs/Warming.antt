@@ -20,6 +20,7 @@ Ramped below warm n m x y =
     (n ≤ warm → (m ≡ 0) × Cleared below x y) × (warm < n → (b : ℕ) × ((m ≡ warmed warm b) × SetTo below x (n - warm) b y))
 
 -- the whole warm-up is still to come while the alarm below is set, so just the warm-up is left when that rings
-abbrev pub Level : ℕ → Option ℕ → ℕ → Type 0
-Level warm None left = left ≤ warm
-Level warm (Some b) left = left ≡ b + warm
+abbrev pub Level : (warm : ℕ) → (below left : Option ℕ) → Type 0
+Level warm None None = Unit {0}
+Level warm None (Some left) = left ≤ warm
+Level warm (Some b) left = left ≡ Some (b + warm)

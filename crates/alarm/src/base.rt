@@ -27,6 +27,7 @@ pub trait Alarm {
     ghost passes: { Self → Self → Type 0 } = { λ _ _. Unit {0} };
 
     /// Sets it to a wait near `n`, whatever it was set to before, and answers the wait; a wait of 0 leaves it unset.
+    // It answers a number and no `Option`, since both bounds speak of the wait, be it 0 or not.
     fn set(&mut self, n: u32) -> u32
         ensures above { result ≤ min n (reach self.old) }
         ensures near { min n (reach self.old) < result + grain self.old }

@@ -1,45 +1,49 @@
 //! A counter of sixteen bits: exact, and as far as they reach.
-ghost use Rattle.std.specs.Prelude.{◌≡◌, ◌-◌, min, None};
-ghost use Rattle.alarm.specs.Meaning.{waiting};
+ghost use Rattle.std.specs.Prelude.{◌≡◌, ℕ, ◌≤◌, min, Some, None};
+ghost use Rattle.alarm.specs.Meaning.{waiting, onward};
 ghost use Rattle.alarm.specs.Counting.{counter_reach};
 ghost use Rattle.std.proofs.Common.{rules};
 
 use crate::base::Alarm;
+use crate::countdown::Countdown;
 
 /// The longest wait: the most that sixteen bits hold.
 const REACH: u32 = 65_535;
 
-/// Counts down each tick, and rings at 0.
+/// Counts down each tick.
 #[derive(Drop)]
 pub struct Counter {
-    /// 0 if it is unset.
-    ticks: u16,
+    /// The ticks left.
+    count: Countdown,
+    ghost fits: { (t : ℕ) → count.rest ≡ Some t → t ≤ counter_reach },
 }
 
 impl Counter {
     /// A counter that is unset.
     pub fn new() -> Counter
-        ensures unset { waiting result.ticks ≡ None }
+        ensures unset { result.count.rest ≡ None }
     {
-        Counter { ticks: 0 }
+        Counter {
+            count: Countdown::unset(),
+        }
     }
 }
 
 /// It waits for just what is asked, up to its reach.
 impl Alarm for Counter {
-    ghost meaning = { λ x. waiting x.ticks };
+    ghost meaning = { λ x. x.count.rest };
 
     ghost reach = { λ _. counter_reach };
 
     ghost grain = { λ _. 1 };
 
-    ghost sets = { λ _ n m y. (m ≡ min n counter_reach) × (y.ticks ≡ m) };
+    ghost sets = { λ _ n m y. (m ≡ min n counter_reach) × (y.count.rest ≡ waiting m) };
 
-    ghost clears = { λ _ y. y.ticks ≡ 0 };
+    ghost clears = { λ _ y. y.count.rest ≡ None };
 
-    ghost passes = { λ x y. y.ticks ≡ x.ticks - 1 };
+    ghost passes = { λ x y. y.count.rest ≡ onward x.count.rest };
 
-    ghost some = { Prim.search rules };
+    ghost some = { λ x. x.count.some };
 
     ghost reaches = { Prim.search rules };
 
@@ -47,27 +51,19 @@ impl Alarm for Counter {
 
     fn set(&mut self, n: u32) -> u32 {
         let wait = n.min(REACH);
-        self.ticks = wait as u16;
+        self.count = Countdown::of(wait);
         wait
     }
 
     fn clear(&mut self) {
-        self.ticks = 0;
+        self.count = Countdown::unset();
     }
 
     fn pass(&mut self) -> bool {
-        if self.ticks == 0 {
-            return false;
-        }
-        self.ticks -= 1;
-        self.ticks == 0
+        self.count.pass()
     }
 
     fn left(&self) -> Option<u32> {
-        if self.ticks == 0 {
-            None
-        } else {
-            Some(u32::from(self.ticks))
-        }
+        self.count.left()
     }
 }

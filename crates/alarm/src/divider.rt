@@ -1,10 +1,10 @@
 //! A slow timer behind a divider: it counts boundaries, each a period apart, and not ticks.
-ghost use Rattle.std.specs.Prelude.{◌≡◌, ◌+◌, ◌-◌, ◌*◌, ◌%◌, ◌<◌, ◌≤◌, min, None};
-ghost use Rattle.alarm.specs.Meaning.{waiting};
-ghost use Rattle.alarm.specs.Boundaries.{Nearest, period, divider_reach};
-ghost use Rattle.std.proofs.Common.{rules, arith};
+ghost use Rattle.std.specs.Prelude.{◌≡◌, ℕ, ◌+◌, ◌%◌, ◌<◌, ◌≤◌, min, Some, None};
+ghost use Rattle.alarm.specs.Boundaries.{Nearest, until, period, most, divider_reach};
+ghost use Rattle.std.proofs.Common.{rules};
 
 use crate::base::Alarm;
+use crate::countdown::Countdown;
 
 /// The ticks from a boundary to the next.
 const PERIOD: u32 = 32;
@@ -18,27 +18,32 @@ const MOST: u32 = 255;
 /// The longest wait.
 const REACH: u32 = MOST * PERIOD;
 
-/// Counts down at each boundary, and rings at 0.
+/// Counts down at each boundary.
 #[derive(Drop)]
 pub struct Divider {
-    /// The boundaries left, 0 if it is unset.
-    laps: u8,
+    /// The boundaries left.
+    laps: Countdown,
     /// The ticks since the last boundary.
     phase: u8,
+    ghost fits: { (k : ℕ) → laps.rest ≡ Some k → k ≤ most },
     ghost turning: { phase < period },
 }
 
 impl Divider {
     /// A divider that is unset, at phase 0.
     pub fn new() -> Divider
-        ensures unset { waiting (period * result.laps - result.phase) ≡ None }
+        ensures unset { result.laps.rest ≡ None }
         ensures phase { result.phase ≡ 0 }
     {
-        Divider { laps: 0, phase: 0 }
+        Divider {
+            laps: Countdown::unset(),
+            phase: 0,
+        }
     }
 }
 
 /// The ticks from a phase to the last boundary within the next `k`, 0 if there is none.
+#[tactic(auto, using(crate::proofs::Chosen::quotient_chooses))]
 fn last_boundary(phase: u32, k: u32) -> u32
     requires turning { phase < period }
     requires reach { k ≤ divider_reach }
@@ -50,7 +55,7 @@ fn last_boundary(phase: u32, k: u32) -> u32
 
 /// It waits for the last boundary that is not too late.
 impl Alarm for Divider {
-    ghost meaning = { λ x. waiting (period * x.laps - x.phase) };
+    ghost meaning = { λ x. until x.phase x.laps.rest };
 
     ghost reach = { λ _. divider_reach };
 
@@ -62,21 +67,21 @@ impl Alarm for Divider {
 
     ghost passes = { λ x y. y.phase ≡ (x.phase + 1) % period };
 
-    ghost some = { first_of (Prim.search rules, Prim.grind (arith, Self.row.coded.inj)) };
+    ghost some = { Prim.search rules };
 
-    ghost reaches = { first_of (Prim.search rules, Prim.grind (arith, Self.row.coded.inj)) };
+    ghost reaches = { Prim.search rules };
 
-    ghost grains = { first_of (Prim.search rules, Prim.grind (arith, Self.row.coded.inj)) };
+    ghost grains = { Prim.search rules };
 
     fn set(&mut self, n: u32) -> u32 {
         let phase = u32::from(self.phase);
         let wait = last_boundary(phase, n.min(REACH));
-        self.laps = ((wait + phase) / PERIOD) as u8;
+        self.laps = Countdown::of((wait + phase) / PERIOD);
         wait
     }
 
     fn clear(&mut self) {
-        self.laps = 0;
+        self.laps = Countdown::unset();
     }
 
     fn pass(&mut self) -> bool {
@@ -85,18 +90,11 @@ impl Alarm for Divider {
             return false;
         }
         self.phase = 0;
-        if self.laps == 0 {
-            return false;
-        }
-        self.laps -= 1;
-        self.laps == 0
+        self.laps.pass()
     }
 
     fn left(&self) -> Option<u32> {
-        if self.laps == 0 {
-            None
-        } else {
-            Some(u32::from(self.laps) * PERIOD - u32::from(self.phase))
-        }
+        let laps = self.laps.left()?;
+        Some(laps * PERIOD - u32::from(self.phase))
     }
 }

@@ -1,11 +1,12 @@
 //! An exact wait over any alarm: it sets the alarm below again and again until the wait is over.
-ghost use Rattle.std.specs.Prelude.{◌≡◌, ℕ, ◌-◌, min, None};
-ghost use Rattle.alarm.specs.Meaning.{waiting};
+ghost use Rattle.std.specs.Prelude.{◌≡◌, ℕ, min, None};
+ghost use Rattle.alarm.specs.Meaning.{waiting, onward};
 ghost use Rattle.alarm.specs.Effects.{SetTo, Cleared};
 ghost use Rattle.alarm.specs.Topping.{Covers, Resumed, top_up_reach};
 ghost use Rattle.std.proofs.Common.{rules};
 
 use crate::base::Alarm;
+use crate::countdown::Countdown;
 
 /// The longest wait.
 const REACH: u32 = 1_000_000;
@@ -14,39 +15,41 @@ const REACH: u32 = 1_000_000;
 #[derive(Drop)]
 pub struct TopUp<L> {
     below: L,
-    /// The ticks left, 0 if it is unset.
-    ticks: u32,
+    /// The ticks left.
+    count: Countdown,
 }
 
 impl<L: Alarm> TopUp<L> {
     /// A top-up that is unset, over an alarm that it clears.
-    pub fn new(below: L) -> TopUp<L>
-        ensures unset { waiting result.ticks ≡ None }
+    pub fn new(mut below: L) -> TopUp<L>
+        ensures unset { result.count.rest ≡ None }
         ensures below { Cleared L.Alarm below result.below }
     {
-        let mut below = below;
         below.clear();
-        TopUp { below, ticks: 0 }
+        TopUp {
+            below,
+            count: Countdown::unset(),
+        }
     }
 }
 
 /// It waits for just what is asked, up to its reach; where the alarm below waits for less, the rest is asked of it anew, or counted here.
 impl<L: Alarm> Alarm for TopUp<L> {
-    ghost meaning = { λ x. waiting x.ticks };
+    ghost meaning = { λ x. x.count.rest };
 
     ghost reach = { λ _. top_up_reach };
 
     ghost grain = { λ _. 1 };
 
-    ghost sets = { λ x n m y. (m ≡ min n top_up_reach) × (y.ticks ≡ m) × ((b : ℕ) × SetTo L.Alarm x.below m b y.below)
-        × Covers (L.Alarm.meaning y.below) y.ticks };
+    ghost sets = { λ x n m y. (m ≡ min n top_up_reach) × (y.count.rest ≡ waiting m) × ((b : ℕ) × SetTo L.Alarm x.below m b y.below)
+        × Covers (L.Alarm.meaning y.below) y.count.rest };
 
-    ghost clears = { λ x y. (y.ticks ≡ 0) × Cleared L.Alarm x.below y.below };
+    ghost clears = { λ x y. (y.count.rest ≡ None) × Cleared L.Alarm x.below y.below };
 
-    ghost passes = { λ x y. (y.ticks ≡ x.ticks - 1) × Resumed L.Alarm x.below y.ticks y.below
-        × (Covers (L.Alarm.meaning x.below) x.ticks → Covers (L.Alarm.meaning y.below) y.ticks) };
+    ghost passes = { λ x y. (y.count.rest ≡ onward x.count.rest) × Resumed L.Alarm x.below y.count.rest y.below
+        × (Covers (L.Alarm.meaning x.below) x.count.rest → Covers (L.Alarm.meaning y.below) y.count.rest) };
 
-    ghost some = { Prim.search rules };
+    ghost some = { λ x. x.count.some };
 
     ghost reaches = { Prim.search rules };
 
@@ -55,35 +58,27 @@ impl<L: Alarm> Alarm for TopUp<L> {
     fn set(&mut self, n: u32) -> u32 {
         let wait = n.min(REACH);
         let _ = self.below.set(wait);
-        self.ticks = wait;
+        self.count = Countdown::of(wait);
         wait
     }
 
     fn clear(&mut self) {
         self.below.clear();
-        self.ticks = 0;
+        self.count = Countdown::unset();
     }
 
     fn pass(&mut self) -> bool {
         let rang = self.below.pass();
-        if self.ticks == 0 {
-            return false;
+        let rings = self.count.pass();
+        if let Some(rest) = self.left()
+            && rang
+        {
+            let _ = self.below.set(rest);
         }
-        self.ticks -= 1;
-        if self.ticks == 0 {
-            return true;
-        }
-        if rang {
-            let _ = self.below.set(self.ticks);
-        }
-        false
+        rings
     }
 
     fn left(&self) -> Option<u32> {
-        if self.ticks == 0 {
-            None
-        } else {
-            Some(self.ticks)
-        }
+        self.count.left()
     }
 }

@@ -1,7 +1,6 @@
 //! The waits that the kinds choose at the figures of docs/alarms.md.
-ghost use Rattle.std.specs.Prelude.{◌≡◌, ◌+◌, ◌-◌, ◌*◌, ◌<◌, ◌≤◌, min, None, MatchResult};
-ghost use Rattle.alarm.specs.Boundaries.{Nearest, period, divider_reach};
-ghost use Rattle.alarm.specs.Meaning.{waiting};
+ghost use Rattle.std.specs.Prelude.{◌≡◌, ◌+◌, ◌-◌, ◌<◌, ◌≤◌, min, None, MatchResult};
+ghost use Rattle.alarm.specs.Boundaries.{Nearest, divider_reach};
 ghost use Rattle.alarm.specs.Counting.{counter_reach};
 ghost use Rattle.alarm.specs.Warming.{warm_up_limit};
 ghost use Rattle.alarm_piles.specs.Figures.{Figures};
@@ -18,7 +17,7 @@ use std::io;
 /// A divider that is unset, five ticks old.
 pub(crate) fn at_phase_five() -> Divider
     ensures phase { result.phase ≡ 5 }
-    ensures unset { waiting (period * result.laps - result.phase) ≡ None }
+    ensures unset { result.laps.rest ≡ None }
 {
     let mut divider = Divider::new();
     for _tick in 0..5_u8 {
