@@ -10,14 +10,12 @@ pub(crate) fn rings_at<L: Alarm>(alarm: &mut L, n: u32) -> u32
     ensures over { L.Alarm.meaning alarm.new ≡ None }
 {
     let wait = alarm.set(n);
-    let mut passed = 0;
-    while passed < wait {
-        passed += 1;
+    for passed in 1..=wait {
         if alarm.pass() {
             return passed;
         }
     }
-    passed
+    wait
 }
 
 /// Whether set, left and pass tell the same story of a whole wait: they do, for every alarm.
@@ -25,14 +23,8 @@ pub(crate) fn agrees<L: Alarm>(alarm: &mut L, n: u32) -> bool
     ensures { result ≡ true }
 {
     let wait = alarm.set(n);
-    let mut rest = wait;
-    while rest > 0 {
-        match alarm.left() {
-            Some(left) if left == rest => {}
-            _ => return false,
-        }
-        rest -= 1;
-        if alarm.pass() != (rest == 0) {
+    for rest in (1..=wait).rev() {
+        if alarm.left() != Some(rest) || alarm.pass() != (rest == 1) {
             return false;
         }
     }

@@ -27,10 +27,9 @@ pub(crate) fn at_phase_five() -> Divider
 }
 
 /// The wait that a divider chooses.
-fn divider_waits(divider: Divider, n: u32) -> u32
+fn divider_waits(mut divider: Divider, n: u32) -> u32
     ensures { Nearest divider.phase (min n divider_reach) result }
 {
-    let mut divider = divider;
     divider.set(n)
 }
 
@@ -39,16 +38,8 @@ fn ramp_waits(warm: u32, n: u32) -> Result<u32, Refusal>
     ensures { MatchResult result (λ m. (n ≤ warm → m ≡ 0) × (warm < n → m ≡ min (n - warm) counter_reach + warm))
         (λ _. (1 ≤ warm → warm_up_limit < warm)) }
 {
-    match Ramp::new(Counter::new(), warm) {
-        Ok(ramp) => {
-            let mut ramp = ramp;
-            Ok(ramp.set(n))
-        }
-        Err(back) => {
-            let (_, refusal) = back;
-            Err(refusal)
-        }
-    }
+    let mut ramp = Ramp::new(Counter::new(), warm).map_err(|(_, refusal)| refusal)?;
+    Ok(ramp.set(n))
 }
 
 /// What is left of a counter that was set to 7 and meant for a ramp of 1001, and the number of the refusal.
@@ -57,21 +48,16 @@ fn handed_back() -> (u32, u32)
 {
     let mut counter = Counter::new();
     let _ = counter.set(7);
-    match Ramp::new(counter, 1_001) {
-        Ok(_) => (0, 0),
-        Err(back) => {
-            let (counter, refusal) = back;
-            (counter.left().unwrap_or(0), refusal.record().number)
-        }
-    }
+    let Err((counter, refusal)) = Ramp::new(counter, 1_001) else {
+        unreachable!()
+    };
+    (counter.left().unwrap(), refusal.record().number)
 }
 
 /// The figures follow from the effects that the kinds promise, whatever the code.
-pub(crate) fn figures_hold() -> u8
+pub(crate) fn figures_hold()
     ensures { Figures }
-{
-    0
-}
+{}
 
 /// The figures, one to a line.
 pub(crate) fn show_figures(rt: &impl Print) -> io::Result<()> {

@@ -11,7 +11,7 @@ use crate::piles::show_piles;
 use std::io;
 
 fn main(rt: HostRuntime) -> io::Result<()> {
-    let _ = figures_hold();
+    figures_hold();
     show_figures(&rt)?;
     show_piles(&rt)
 }

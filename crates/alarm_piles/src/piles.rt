@@ -1,4 +1,6 @@
 //! Piles of kinds, all driven by the same code.
+ghost use Rattle.std.specs.Prelude.{◌≡◌, None};
+
 use crate::drive::{agrees, rings_at};
 use crate::figures::at_phase_five;
 use crate::stepped::Stepped;
@@ -21,44 +23,36 @@ fn show<L: Alarm>(rt: &impl Print, name: &str, pile: &mut L) -> io::Result<()> {
     Ok(())
 }
 
-/// A ramp over a pile.
-fn show_ramp<L: Alarm + Drop>(rt: &impl Print, name: &str, below: L) -> io::Result<()> {
-    match Ramp::new(below, WARM_UP) {
-        Ok(ramp) => {
-            let mut ramp = ramp;
-            show(rt, name, &mut ramp)
-        }
-        Err(back) => {
-            let (_, refusal) = back;
-            let number = refusal.record().number;
-            println!(rt; "{name}: refused {number}")
-        }
-    }
-}
-
-/// A top-up over a ramp over a counter.
-fn show_top_up(rt: &impl Print, name: &str) -> io::Result<()> {
-    match Ramp::new(Counter::new(), WARM_UP) {
-        Ok(ramp) => show(rt, name, &mut TopUp::new(ramp)),
-        Err(back) => {
-            let (_, refusal) = back;
-            let number = refusal.record().number;
-            println!(rt; "{name}: refused {number}")
-        }
-    }
+/// A ramp over a pile; its warm-up is within the limits, so none is refused.
+fn ramp_over<L: Alarm + Drop>(below: L) -> Ramp<L>
+    ensures warm { result.warm ≡ 10 }
+    ensures unset { result.count.rest ≡ None }
+{
+    let Ok(ramp) = Ramp::new(below, WARM_UP) else {
+        unreachable!()
+    };
+    ramp
 }
 
 /// Each pile, by its name.
 pub(crate) fn show_piles(rt: &impl Print) -> io::Result<()> {
-    show_ramp(rt, "ramp over divider", at_phase_five())?;
-    show_ramp(
+    show(rt, "ramp over divider", &mut ramp_over(at_phase_five()))?;
+    show(
         rt,
         "ramp over top-up over divider",
-        TopUp::new(at_phase_five()),
+        &mut ramp_over(TopUp::new(at_phase_five())),
     )?;
     show(rt, "top-up over divider", &mut TopUp::new(at_phase_five()))?;
-    show_top_up(rt, "top-up over ramp over counter")?;
-    show_ramp(rt, "ramp over a kind of its own", Stepped::new())?;
+    show(
+        rt,
+        "top-up over ramp over counter",
+        &mut TopUp::new(ramp_over(Counter::new())),
+    )?;
+    show(
+        rt,
+        "ramp over a kind of its own",
+        &mut ramp_over(Stepped::new()),
+    )?;
     show(
         rt,
         "top-up over a kind of its own",

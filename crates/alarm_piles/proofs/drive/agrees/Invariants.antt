@@ -4,6 +4,3 @@ use Rattle.alarm_piles.proofs.drive.agrees.Given as goal
 
 abbrev pub invariant-loop-rest : goal.invariant-loop-rest
 invariant-loop-rest g l = g.L.Alarm.meaning l.alarm ≡ waiting l.rest
-
-abbrev pub decreases-loop-rest : goal.decreases-loop-rest
-decreases-loop-rest g l = l.rest
