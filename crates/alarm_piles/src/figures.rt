@@ -66,9 +66,8 @@ pub(crate) fn show_figures(rt: &impl Print) -> io::Result<()> {
     let near = divider_waits(Divider::new(), 31);
     println!(rt; "divider at phase 0, set to 31: waits {near}")?;
     for n in 10..12_u32 {
-        if let Ok(wait) = ramp_waits(10, n) {
-            println!(rt; "ramp of 10 over a counter, set to {n}: waits {wait}")?;
-        }
+        let wait = ramp_waits(10, n).unwrap();
+        println!(rt; "ramp of 10 over a counter, set to {n}: waits {wait}")?;
     }
     let at = rings_at(&mut TopUp::new(at_phase_five()), 70);
     println!(rt; "top-up over a divider at phase 5, set to 70: rings at pass {at}")?;
