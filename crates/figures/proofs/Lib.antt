@@ -1,8 +1,6 @@
 pub mod Rows
 pub mod Tables
 pub mod Texts
-pub mod Single
-pub mod Passing
 pub mod Piles
 pub mod Alike
 pub mod Sleeping

@@ -1,21 +1,16 @@
 -- The effects of a pile's calls allow one wait: the counter's and the top-up's is told, a divider has one boundary to
--- choose (proofs/Single.antt), and a ramp's comes from that of the alarm below. A wait of m rings at the m-th pass
--- (proofs/Passing.antt).
-use Rattle.std.proofs.Common.{◌≡◌, ℕ, ◌-◌, ◌<◌, ◌≤◌, min, leb, ◌⊎◌, sym, ap, ◌∙◌, inl, inr, arith}
+-- choose (alarm/proofs/Single.antt), and a ramp's comes from that of the alarm below. A wait of m rings at the m-th pass
+-- (alarm/proofs/Passing.antt).
+use Rattle.std.proofs.Common.{◌≡◌, ℕ, ◌-◌, ◌<◌, ◌≤◌, min, leb, ◌⊎◌, sym, ap, ◌∙◌, inl, inr}
 use Rattle.std.proofs.lemmas.Bool.{cases_lt, cond-true, cond-false, le-leb, lt-leb}
 use Rattle.alarm.specs.declared.base.Alarm.{Ghosts}
-use Rattle.alarm.specs.declared.divider.Divider.{Divider}
-use Rattle.alarm.specs.contracts.divider.DividerAlarm.TheImpl as divider_alarm
 use Rattle.alarm.specs.Boundaries.{divider_reach}
 use Rattle.alarm.specs.Effects.{SetTo}
 use Rattle.alarm.specs.Meaning.{waiting}
 use Rattle.alarm.specs.Warming.{warmed, Ramped}
+use Rattle.alarm.proofs.Passing.{rings_after}
+use Rattle.alarm.proofs.Single.{divider_chooses}
 use Rattle.figures.specs.Piles.{Pile, Pile.counter, Pile.divider, Pile.ramp, Pile.top_up, State, ghosts_of, At, last_boundary, ramp_wait, wait_of, Waits, RingsAt}
-use Rattle.figures.proofs.Single.{nearest_is_one}
-use Rattle.figures.proofs.Passing.{rings_after}
-
-divider_chooses : (x y : Divider) (n m : ℕ) → SetTo divider_alarm.ghosts x n m y → m ≡ last_boundary x.phase (min n divider_reach)
-divider_chooses x y n m s = nearest_is_one x.phase (min n divider_reach) m x.turning (omega arith) s.5.0
 
 -- a ramp over an alarm that has one wait, f k where it is set to k
 ramp_chooses : {S : Type 0} (below : Ghosts S) (warm n m : ℕ) (x y : S) (f : ℕ → ℕ) → Ramped below warm n m x y
