@@ -1,9 +1,8 @@
 -- The verdict follows the reader through the text: after each line, what is left to ask of the rest gives the verdict
 -- on the whole.
-use Rattle.std.proofs.Common.{◌≡◌, ℕ, suc, ◌+◌, ◌-◌, ◌<◌, ◌≤◌, false, cond, ◌&&◌, leb, List, [], ◌∷◌, ◌++◌, length, get_or, take, drop, set, Ok, Err, sym, refl, ap, ◌∙◌, arith, Bor, eq-eqb, ne_eqb, le-leb}
+use Rattle.std.proofs.Common.{◌≡◌, ℕ, suc, ◌+◌, ◌-◌, ◌<◌, ◌≤◌, false, cond, ◌&&◌, leb, List, [], ◌∷◌, ◌++◌, length, get_or, drop, Ok, Err, sym, refl, ap, ◌∙◌, arith, Bor, eq-eqb, ne_eqb, le-leb}
 use native.Mathlib.Nat.{sub-zero}
 use borrow.Author.Tests.{lt-leb}
-use Rattle.std.proofs.lemmas.List.{take_more_set}
 use Rattle.refusal.specs.declared.cases.Refusal.{Refusal}
 use Rattle.refusal.specs.declared.cases.Refusal.TheVariants.{TextLength, LineForm, RowCount, TextAfter}
 use Rattle.table.specs.Lines.{count_line, row_line, decimal}
@@ -112,10 +111,6 @@ contents_push : (xs : List (Bor (List ℕ))) (x : Bor (List ℕ)) → contents (
 contents_push [] x = refl
 contents_push (y ∷ xs) x = ap (λ zs. y.now ∷ zs) (contents_push xs x)
 
--- the names as the array holds them, after the new one is stored
-names_stored : (xs : List (Bor (List ℕ))) (i : ℕ) (x : Bor (List ℕ)) → i < length xs → contents (take (i + 1) (set xs i x)) ≡ contents (take i xs) ++ (x.now ∷ [])
-names_stored xs i x h = ap contents (take_more_set xs i x h) ∙ contents_push (take i xs) x
-
 -- a reading, by its parts
 pub same_parts : (names : List (List ℕ)) (ts us : List Task) (a b : ℕ) → us ≡ ts → b ≡ a
     → ◌≡◌ {A = Reading} (record { names = names; tasks = ts; common = a }) (record { names = names; tasks = us; common = b })
@@ -123,29 +118,25 @@ same_parts names ts us a b e h = cc
 
 -- the reader before its row i: what is left to ask gives the verdict
 module _ (bs : List ℕ) (n i : ℕ) (at_row : Cursor) (names : List (Bor (List ℕ))) (d : Rows)
-    (so_far : verdict bs ≡ rows_from (n - i) (i + 2) at_row.place at_row.rest.now (reading (contents (take i names)) d)) where
-  pub row_refused : i < n → (e : Refusal) → lined (i + 2) at_row.place at_row.rest.now (reading (contents (take i names)) d) ≡ Err e → verdict bs ≡ Err e
-  row_refused more e stop = so_far ∙ rows_stop n i (i + 2) at_row.place at_row.rest.now (reading (contents (take i names)) d) e more stop
+    (so_far : verdict bs ≡ rows_from (n - i) (i + 2) at_row.place at_row.rest.now (reading (contents names) d)) where
+  pub row_refused : i < n → (e : Refusal) → lined (i + 2) at_row.place at_row.rest.now (reading (contents names) d) ≡ Err e → verdict bs ≡ Err e
+  row_refused more e stop = so_far ∙ rows_stop n i (i + 2) at_row.place at_row.rest.now (reading (contents names) d) e more stop
 
-  pub row_taken : i < n → i < length names → (name : Bor (List ℕ)) (next : Cursor) (after : Rows) → Takes (i + 2) at_row (contents (take i names)) d name.now next after
-      → verdict bs ≡ rows_from (n - (i + 1)) (i + 1 + 2) next.place next.rest.now (reading (contents (take (i + 1) (set names i name))) after)
-  row_taken more room name next after t =
+  pub row_taken : i < n → (name : Bor (List ℕ)) (next : Cursor) (after : Rows) → Takes (i + 2) at_row (contents names) d name.now next after
+      → verdict bs ≡ rows_from (n - (i + 1)) (i + 1 + 2) next.place next.rest.now (reading (contents (names ++ (name ∷ []))) after)
+  row_taken more name next after t =
       let line : i + 2 + 1 ≡ i + 1 + 2 = omega arith in
       so_far
-      ∙ rows_more n i (i + 2) at_row.place at_row.rest.now (reading (contents (take i names)) d) (reading (contents (take i names) ++ (name.now ∷ [])) after) next.rest.now next.place more t.yes t.place t.rest
-      ∙ ap (λ m. rows_from (n - (i + 1)) m next.place next.rest.now (reading (contents (take i names) ++ (name.now ∷ [])) after)) line
-      ∙ ap (λ xs. rows_from (n - (i + 1)) (i + 1 + 2) next.place next.rest.now (reading xs after)) (sym (names_stored names i name room))
+      ∙ rows_more n i (i + 2) at_row.place at_row.rest.now (reading (contents names) d) (reading (contents names ++ (name.now ∷ [])) after) next.rest.now next.place more t.yes t.place t.rest
+      ∙ ap (λ m. rows_from (n - (i + 1)) m next.place next.rest.now (reading (contents names ++ (name.now ∷ [])) after)) line
+      ∙ ap (λ xs. rows_from (n - (i + 1)) (i + 1 + 2) next.place next.rest.now (reading xs after)) (sym (contents_push names name))
 
   pub text_after : n ≤ i → i ≤ n → 0 < length at_row.rest.now → verdict bs ≡ Err (TextAfter (at (n + 2) at_row.place))
   text_after low high some =
       let line : i + 2 ≡ n + 2 = omega arith in
-      so_far ∙ rows_over n i (i + 2) at_row.place at_row.rest.now (reading (contents (take i names)) d) low some ∙ ap (λ m. Err (TextAfter (at m at_row.place))) line
+      so_far ∙ rows_over n i (i + 2) at_row.place at_row.rest.now (reading (contents names) d) low some ∙ ap (λ m. Err (TextAfter (at m at_row.place))) line
 
   pub text_ends : n ≤ i → length at_row.rest.now ≤ 0 → (tasks : List Task) (common : ℕ) → tasks ≡ drafted d → common ≡ common_so_far d
-      → verdict bs ≡ Ok (record { names = contents (take i names); tasks = tasks; common = common })
+      → verdict bs ≡ Ok (record { names = contents names; tasks = tasks; common = common })
   text_ends low over tasks common is-tasks is-common =
-      so_far ∙ rows_end n i (i + 2) at_row.place at_row.rest.now (reading (contents (take i names)) d) low (omega arith) ∙ ap Ok (same_parts (contents (take i names)) (drafted d) tasks (common_so_far d) common is-tasks is-common)
-
--- the array of names has a place for each row that the count allows
-pub slot_free : (n i : ℕ) (names : List (Bor (List ℕ))) → i < n → n ≤ 64 → length names ≡ 64 → i < length names
-slot_free n i names h k e = omega arith
+      so_far ∙ rows_end n i (i + 2) at_row.place at_row.rest.now (reading (contents names) d) low (omega arith) ∙ ap Ok (same_parts (contents names) (drafted d) tasks (common_so_far d) common is-tasks is-common)

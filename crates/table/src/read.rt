@@ -8,6 +8,7 @@ ghost use Rattle.table.specs.Verdict.{taken, limited, lined};
 use crate::cursor::Cursor;
 use crate::rows::{MOST_ROWS, Rows, Table};
 use crate::task::Task;
+use arrayvec::ArrayVec;
 use refusal::cases::{Position, Refusal};
 
 /// The most bytes that a text may have.
@@ -80,13 +81,12 @@ pub fn read(text: &[u8]) -> Result<Table, Refusal>
     if rows < 1 || rows > MOST_ROWS {
         return Err(Refusal::RowCount(Position { line: 1, place: 0 }));
     }
-    // As many names as rows so far, which `row` counts: a vector would count them once more.
-    let mut names = [text; MOST_ROWS];
+    let mut names: ArrayVec<&[u8], MOST_ROWS> = ArrayVec::new();
     let mut draft = Rows::new();
     let mut at = first_row;
     for row in 0..rows {
-        let (name, next) = next_row(at, row + 2, &names[..row], &mut draft)?;
-        names[row] = name;
+        let (name, next) = next_row(at, row + 2, &names, &mut draft)?;
+        names.push(name);
         at = next;
     }
     if at.rest.len() > 0 {

@@ -1,14 +1,14 @@
-use Rattle.std.proofs.Common.{rules, ◌≡◌, ◌+◌, [], length, take, Ok, Err, sym, refl, ap, ◌∙◌, ⊎_elim, zero-add, length-set}
+use Rattle.std.proofs.Common.{rules, ◌≡◌, ◌+◌, ◌-◌, [], length, Ok, Err, sym, ap, ◌∙◌, ⊎_elim, zero-add}
 use Rattle.std.proofs.lemmas.Result.{err_from_is_err_and}
 use Rattle.refusal.specs.declared.cases.Refusal.TheVariants.{TextLength, LineForm, RowCount, TextAfter}
 use Rattle.table.specs.Lines.{count_line}
-use Rattle.table.specs.Readings.{contents}
-use Rattle.table.specs.Verdict.{at}
+use Rattle.table.specs.Readings.{contents, reading}
+use Rattle.table.specs.Verdict.{at, rows_from}
 use Rattle.table.proofs.Judged.{judged}
 use Rattle.table.proofs.Lined.{past_found, stuck_found}
 use Rattle.table.proofs.Mapped.{mapped_ok, mapped_err}
 use Rattle.table.proofs.Starts.{first_moves, first_halts}
-use Rattle.table.proofs.Texts.{too_short, too_long, first_form, count_low, count_high, count_start, row_refused, row_taken, text_after, text_ends, slot_free, same_parts}
+use Rattle.table.proofs.Texts.{too_short, too_long, first_form, count_low, count_high, count_start, row_refused, row_taken, text_after, text_ends, same_parts}
 use Rattle.table.proofs.read.read.Goals as goal
 
 pub returns-then-text-lt1 : goal.returns-then-text-lt1
@@ -43,35 +43,35 @@ loop-row-init c =
     let moves = first_moves c.args.text.now c.new.result c.new.ensures.rest c.new.ensures.place _ c.in_ok-count.first_row v in
     let fresh = c.new-draft.ensures in
     let bs = c.args.text.now in (
-      count_start bs c.if-text-lt1.false c.if-text-gt-MOST_BYTES.false _ _ _ _ v.1 (past_found _ _ _ _ _ _ moves) c.if-rows-lt1.false c.if-rows-gt-MOST_ROWS.false _ (same_parts [] [] _ 1 _ fresh.tasks fresh.common),
+      count_start bs c.if-text-lt1.false c.if-text-gt-MOST_BYTES.false _ _ _ _ v.1 (past_found _ _ _ _ _ _ moves) c.if-rows-lt1.false c.if-rows-gt-MOST_ROWS.false _ (same_parts [] [] _ 1 _ fresh.tasks fresh.common ∙ ap (λ names. reading (contents names) c.new-draft.result) (sym c.new-names.ensures)),
       ap length fresh.tasks,
-      refl,
+      ap length c.new-names.ensures,
     )
 
 pub returns-in_err-name : goal.returns-in_err-name
 returns-in_err-name c =
     let p = err_from_is_err_and c.from_residual-in_err-name.result c.from_residual-in_err-name.ensures.1 in
-    rw (p.1, p.2) (judged c.args.text.now (Err c.in_err-name.field-0.0) (row_refused c.args.text.now c.in_ok-count.count c.loop-row.row c.loop-row.at c.loop-row.names c.loop-row.draft c.loop-row.invariant.0 c.loop-row-test.true c.in_err-name.field-0.0 c.in_err-name.ensures))
+    rw (p.1, p.2) (judged c.args.text.now (Err c.in_err-name.field-0.0) (row_refused c.args.text.now c.in_ok-count.count c.loop-row.row c.loop-row.at c.loop-row.names.items c.loop-row.draft c.loop-row.invariant.0 c.loop-row-test.true c.in_err-name.field-0.0 (rw c.deref.ensures.0 at c.in_err-name.ensures)))
 
 pub loop-row-preserved : goal.loop-row-preserved
 loop-row-preserved c =
     let i = c.loop-row.row in
-    let t = c.in_ok-name.ensures in
-    let room = slot_free c.in_ok-count.count i c.loop-row.names c.loop-row-test.true c.if-rows-gt-MOST_ROWS.false c.loop-row.invariant.2 in (
-      row_taken c.args.text.now c.in_ok-count.count i c.loop-row.at c.loop-row.names c.loop-row.draft c.loop-row.invariant.0 c.loop-row-test.true room c.in_ok-name.name c.in_ok-name.next c.next_row.new.draft t,
+    let t = rw c.deref.ensures.0 at c.in_ok-name.ensures in (
+      row_taken c.args.text.now c.in_ok-count.count i c.loop-row.at c.loop-row.names.items c.loop-row.draft c.loop-row.invariant.0 c.loop-row-test.true c.in_ok-name.name c.in_ok-name.next c.next_row.new.draft t
+          ∙ ap (λ names. rows_from (c.in_ok-count.count - (i + 1)) (i + 1 + 2) c.in_ok-name.next.place c.in_ok-name.next.rest.now (reading (contents names) c.next_row.new.draft)) (sym c.push.ensures.items),
       t.more ∙ ap (λ n. n + 1) c.loop-row.invariant.1,
-      length-set c.loop-row.names i c.in_ok-name.name ∙ c.loop-row.invariant.2,
+      c.push.ensures.len ∙ ap (λ n. n + 1) c.loop-row.invariant.2,
     )
 
 pub returns-then-at-gt0 : goal.returns-then-at-gt0
 returns-then-at-gt0 c =
     judged c.args.text.now (Err (TextAfter (at (c.in_ok-count.count + 2) c.loop-row.at.place)))
-    (text_after c.args.text.now c.in_ok-count.count c.loop-row.row c.loop-row.at c.loop-row.names c.loop-row.draft c.loop-row.invariant.0 c.loop-row-test.false c.loop-row.auto.row-end c.if-at-gt0.true)
+    (text_after c.args.text.now c.in_ok-count.count c.loop-row.row c.loop-row.at c.loop-row.names.items c.loop-row.draft c.loop-row.invariant.0 c.loop-row-test.false c.loop-row.auto.row-end c.if-at-gt0.true)
 
 pub returns : goal.returns
 returns c =
     let d = c.finish.ensures in
     judged c.args.text.now (Ok c.finish.result) (
-      contents (take c.loop-row.row c.loop-row.names),
-      text_ends c.args.text.now c.in_ok-count.count c.loop-row.row c.loop-row.at c.loop-row.names c.loop-row.draft c.loop-row.invariant.0 c.loop-row-test.false c.if-at-gt0.false _ _ d.tasks d.common,
+      contents c.loop-row.names.items,
+      text_ends c.args.text.now c.in_ok-count.count c.loop-row.row c.loop-row.at c.loop-row.names.items c.loop-row.draft c.loop-row.invariant.0 c.loop-row-test.false c.if-at-gt0.false _ _ d.tasks d.common,
     )
