@@ -1,7 +1,9 @@
 -- The turns of open jobs. Assumes nothing.
 --   sooner   the order of turns: by due tick, and by row at one tick
 --   Queued   some turns are those of the jobs that are open in the slots, each once
-use Rattle.std.specs.Prelude.{◌≡◌, ℕ, Bool, ◌&&◌, ◌||◌, List, length, Some, None, sum_by, Option, ◌==◌, nat_lt}
+use Rattle.std.specs.Prelude.{◌≡◌, ℕ, Bool, List, length, Some, None, sum_by, Option}
+use Rattle.std.specs.Ordering.{nat_cmp, on, then_cmp}
+use Rattle.queue.specs.Order.{before}
 use Rattle.planner.specs.Demand.{sum_to}
 use Rattle.rules.specs.declared.slots.Job.{Job}
 use Rattle.rules.specs.declared.slots.Slot.{Slot}
@@ -9,7 +11,7 @@ use Rattle.rules.specs.Views.{job_at}
 use Rattle.board.specs.declared.turn.Turn.{Turn}
 
 abbrev pub sooner : Turn → Turn → Bool
-sooner x y = nat_lt x.due y.due || (x.due == y.due && nat_lt x.row y.row)
+sooner = before (then_cmp (on (λ t. t.due) nat_cmp) (on (λ t. t.row) nat_cmp))
 
 abbrev pub turn_of : ℕ → Job → Turn
 turn_of row j = record { due = j.due; row = row }

@@ -10,4 +10,3 @@ mod inner;
 mod jobs;
 pub mod replay;
 mod turn;
-mod turn_order;

@@ -8,6 +8,5 @@ pub mod Witness
 pub mod Plans
 pub mod Computing
 pub mod Judging
-mod Keys
 pub mod Texts
 pub mod Shortest

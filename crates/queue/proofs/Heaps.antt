@@ -1,6 +1,5 @@
 -- An element rises and sinks in a heap, and the top of a heap is its least element.
 use Rattle.std.proofs.Common.{◌≡◌, ℕ, zero, suc, ◌+◌, ◌-◌, ◌*◌, ◌/◌, ◌<◌, ◌≤◌, Bool, true, false, List, length, get_or, refl, ap, ◌∙◌, ⊎_elim, arith}
-use mir.Val.{bool_byte}
 use Rattle.std.proofs.lemmas.Bool.{cases_eq}
 use Rattle.queue.specs.Order.{Linear}
 use Rattle.queue.specs.Queue.{Heaped}
@@ -12,10 +11,6 @@ pub record Swapped {X : Type 0} (xs ys : List X) (a b : ℕ) : Type 0 where
   pub second : (d : X) → get_or ys b d ≡ get_or xs a d
   pub other : (k : ℕ) (d : X) → (k ≡ a → ⊥) → (k ≡ b → ⊥) → get_or ys k d ≡ get_or xs k d
   pub long : length ys ≡ length xs
-
-pub at_most_one : (b : Bool) → bool_byte b ≤ 1
-at_most_one true = omega arith
-at_most_one false = omega arith
 
 module _ {X : Type 0} (before : X → X → Bool) where
   pub by : (a b x y : X) → a ≡ x → b ≡ y → before x y ≡ false → before a b ≡ false
@@ -31,18 +26,6 @@ module _ {X : Type 0} (before : X → X → Bool) where
   pub paired : (xs : List X) → Heaped before xs → Paired xs
   paired xs h = λ p k d a b f. by _ _ _ _ (at_place xs d k (k - 1 + 1) (omega arith)) (at_place xs d p ((k - 1) / 2) (omega arith)) (h (k - 1) d (omega arith))
 
-  heaped : (xs : List X) → Paired xs → Heaped before xs
-  heaped xs h = λ k d f. h (k / 2) (k + 1) d (omega arith) (omega arith) f
-
-  pub rests_above : (xs : List X) (j : ℕ) → ((p : ℕ) (d : X) → p * 2 + 1 ≤ j → j ≤ p * 2 + 2 → before (get_or xs j d) (get_or xs p d) ≡ false) → Gap before xs j → Hole before xs j
-  rests_above xs j over h = (
-    λ p k d a b f u. ⊎_elim
-        (λ e. by _ _ _ _ (at_place xs d k j e) refl (over p d (omega arith) (omega arith)))
-        (λ v. h.0 p k d a b f u v)
-        (cases_eq k j),
-    h.1,
-  )
-
   module _ (o : Linear before) where
     itself_by : (x : X) (b : Bool) → before x x ≡ b → before x x ≡ false
     itself_by x true e = o.one_way x x e
@@ -50,22 +33,6 @@ module _ {X : Type 0} (before : X → X → Bool) where
 
     itself : (xs : List X) (j k : ℕ) (d : X) → k ≡ j → before (get_or xs k d) (get_or xs j d) ≡ false
     itself xs j k d e = by _ _ _ _ (at_place xs d k j e) refl (itself_by (get_or xs j d) _ refl)
-
-    left_child : (xs : List X) (j c : ℕ) → c ≡ j * 2 + 1 → ((d : X) → before (get_or xs (c + 1) d) (get_or xs c d) ≡ false) → Foremost before xs j c
-    left_child xs j c e t = λ k d a b f. ⊎_elim (itself xs c k d) (λ n. by _ _ _ _ (at_place xs d k (c + 1) (omega arith)) refl (t d)) (cases_eq k c)
-
-    right_child : (xs : List X) (j c : ℕ) → c ≡ j * 2 + 1 → ((d : X) → before (get_or xs (c + 1) d) (get_or xs c d) ≡ true) → Foremost before xs j (c + 1)
-    right_child xs j c e t = λ k d a b f. ⊎_elim (itself xs (c + 1) k d) (λ n. by _ _ _ _ (at_place xs d k c (omega arith)) refl (o.one_way _ _ (t d))) (cases_eq k (c + 1))
-
-    pub chosen_child : (xs : List X) (j c : ℕ) (b : Bool) → c ≡ j * 2 + 1 → ((d : X) → before (get_or xs (c + 1) d) (get_or xs c d) ≡ b) → Foremost before xs j (c + bool_byte b)
-    chosen_child xs j c true e t = right_child xs j c e t
-    chosen_child xs j c false e t = λ k d a b f. by _ _ _ _ refl (at_place xs d (c + bool_byte false) c (omega arith)) (left_child xs j c e t k d a b f)
-
-    pub rests_below : (xs : List X) (j c : ℕ) → Foremost before xs j c → ((d : X) → before (get_or xs c d) (get_or xs j d) ≡ false) → Hole before xs j → Heaped before xs
-    rests_below xs j c best t h = heaped xs (λ p k d a b f. ⊎_elim
-        (λ e. by _ _ _ _ refl (at_place xs d p j e) (o.chain _ _ _ (t d) (best k d (omega arith) (omega arith) f)))
-        (λ n. h.0 p k d a b f n)
-        (cases_eq p j))
 
     -- c is a child of j
     module _ (xs ys : List X) (j c : ℕ) (from : j * 2 + 1 ≤ c) (to : c ≤ j * 2 + 2) (in' : c < length xs) (s : Swapped xs ys j c) where

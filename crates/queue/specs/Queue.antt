@@ -7,10 +7,11 @@
 --   First       x is the answer where the smallest element is asked for
 --   Entered     x was taken in
 --   Left        x went out
+--   Removed     x went out, or one that `same` takes for it
 --   Replaced    x was taken in for y
 --   Vacant      there is no smallest element to be had
---   Absent      there is no x to be taken out
-use Rattle.std.specs.Prelude.{◌≡◌, ℕ, ◌+◌, ◌/◌, ◌<◌, ◌≤◌, Bool, false, ◌⊎◌, List, ◌∷◌, length, take, drop, slice_index_or}
+--   Absent      there is no x to be taken out, nor one that `same` takes for it
+use Rattle.std.specs.Prelude.{◌≡◌, ℕ, ◌+◌, ◌/◌, ◌<◌, ◌≤◌, Bool, true, false, ◌⊎◌, List, ◌∷◌, length, take, drop, slice_index_or}
 use Rattle.std.specs.List.Sorted.{IsPermutation}
 use Rattle.std.specs.List.{ContainsAt, AllByRecursion}
 
@@ -49,6 +50,10 @@ module _ {X : Type 0} (before : X → X → Bool) where
     pub queue : Queue ws m → Queue xs n
     pub rest : drop m xs ≡ drop m ws
 
+  -- where only x itself is the same as x, that is Left
+  abbrev pub Removed : (X → X → Bool) → X → List X → ℕ → List X → ℕ → Type 0
+  Removed same x ws m xs n = (y : X) × (same y x ≡ true) × Left y ws m xs n
+
   -- from the slice ws to the slice xs, of which n places are held
   pub record Replaced (x y : X) (ws : List X) (n : ℕ) (xs : List X) : Type 0 where
     pub held : IsPermutation (x ∷ take n ws) (y ∷ take n xs)
@@ -59,6 +64,6 @@ module _ {X : Type 0} (before : X → X → Bool) where
 abbrev pub Vacant : {X : Type 0} → List X → ℕ → Type 0
 Vacant xs n = (n ≡ 0) ⊎ (length xs < n)
 
--- x is not held, or more is held than the slice has places for
-abbrev pub Absent : {X : Type 0} → X → List X → ℕ → Type 0
-Absent x xs n = (length xs < n) ⊎ (ContainsAt (take n xs) x → ⊥)
+-- nothing that is the same as x is held, or more is held than the slice has places for
+abbrev pub Absent : {X : Type 0} → (X → X → Bool) → X → List X → ℕ → Type 0
+Absent {X} same x xs n = (length xs < n) ⊎ ((y : X) → same y x ≡ true → ContainsAt (take n xs) y → ⊥)

@@ -1,8 +1,10 @@
 -- The new element stands last, all others being in order, and is settled there.
-use Rattle.std.proofs.Common.{◌≡◌, ◌+◌, ◌-◌, ◌<◌, ◌∷◌, length, take, set, sym, refl, ◌∙◌, subst, arith, length-set}
+use Rattle.std.proofs.Common.{◌≡◌, ◌+◌, ◌<◌, ◌∷◌, length, take, set, sym, refl, ◌∙◌, subst, arith, length-set}
 use Rattle.std.specs.List.Sorted.{IsPermutation}
 use Rattle.std.proofs.lemmas.List.{length-take-le}
 use Rattle.queue.specs.Queue.{Heaped}
+use Rattle.queue.specs.Order.{before}
+use Rattle.queue.proofs.Order.{linear}
 use Rattle.queue.proofs.Held.{put_last, came, part_back, rest_set, within_front}
 use Rattle.queue.proofs.push.Goals as goal
 
@@ -14,16 +16,16 @@ returns g c =
     let ys = c.settle.new.s in
     let below : n < length xs = omega arith in
     let told = c.settle.ensures in
-    let long : length ys ≡ n + 1 - 0 = c.settle.auto.s ∙ length-take-le (n + 1 - 0) (set xs n x) (omega (arith, length-set xs n x)) in
-    let back = part_back (set xs n x) ys _ (n + 1 - 0) (n + 1) (omega arith) (omega (arith, length-set xs n x)) told.shuffled in
+    let long : length ys ≡ n + 1 = c.settle.auto.s ∙ length-take-le (n + 1) (set xs n x) (omega (arith, length-set xs n x)) in
+    let back = part_back (set xs n x) ys _ (n + 1) (omega (arith, length-set xs n x)) told.shuffled in
     record {
       room = below;
       more = refl;
-      held = subst (IsPermutation (x ∷ take n xs)) (sym back) (came xs ys n (n + 1 - 0) x (omega arith) below told.shuffled);
+      held = subst (IsPermutation (x ∷ take n xs)) (sym back) (came xs ys n x below told.shuffled);
       queue = λ q. (
         within_front ys _ (n + 1) (omega arith),
-        subst (Heaped g.T.Precedes.before) (sym back)
-            (told.heaped (put_last g.T.Precedes.before g.met.T.Precedes.linear xs n _ x (omega arith) below q.1)),
+        subst (Heaped (before g.T.Ord.cmp)) (sym back)
+            (told.heaped (put_last (before g.T.Ord.cmp) (linear g.T.Ord.cmp g.met.T.Ord.total) xs n x below q.1)),
       );
-      rest = rest_set xs ys (n + 1 - 0) (n + 1) n x (omega arith) long (omega arith);
+      rest = rest_set xs ys (n + 1) n x long (omega arith);
     }

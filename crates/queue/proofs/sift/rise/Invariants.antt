@@ -1,13 +1,14 @@
 use Rattle.std.proofs.Common.{◌<◌, length}
 use Rattle.std.specs.List.Sorted.{IsPermutation}
 use Rattle.queue.specs.Sift.{Gap}
+use Rattle.queue.specs.Order.{before}
 use Rattle.queue.proofs.sift.rise.Given as goal
 
 abbrev pub invariant-loop-at : goal.invariant-loop-at
 invariant-loop-at g l =
     (l.at < length l.s)
     × IsPermutation l.initial.s l.s
-    × (Gap g.T.Precedes.before l.initial.s l.start → Gap g.T.Precedes.before l.s l.at)
+    × (Gap (before g.T.Ord.cmp) l.initial.s l.start → Gap (before g.T.Ord.cmp) l.s l.at)
 
 abbrev pub decreases-loop-at : goal.decreases-loop-at
 decreases-loop-at g l = l.at

@@ -1,7 +1,9 @@
 -- The row's job is open, so its turn is held, and leaves with it.
-use Rattle.std.proofs.Common.{◌<◌, length, take, refl, ◌∙◌, inl, inr, arith}
+use Rattle.std.proofs.Common.{rules, ◌≡◌, subst, ◌<◌, length, take, refl, ◌∙◌, inl, inr, arith}
 use Rattle.std.proofs.lemmas.List.{length-set}
 use Rattle.rules.specs.Views.{slot_at, closed}
+use Rattle.queue.specs.Queue.{Left}
+use Rattle.board.specs.Turns.{sooner, turn_of}
 use Rattle.board.proofs.Queueing.{open_held, queued_left}
 use Rattle.board.proofs.jobs.Jobs.close.Goals as goal
 
@@ -10,13 +12,15 @@ unreachable-requires-in-None c =
     let s = c.args.self.now in
     elim c.in-None.ensures.0 [
       | inl over ↦ omega (arith, over)
-      | inr gone ↦ gone (open_held s.slots (take s.held s.turns) c.args.row c.in-Some.job s.queued c.in-Some.is)
+      | inr gone ↦ gone (turn_of c.args.row c.in-Some.job) (search rules) (open_held s.slots (take s.held s.turns) c.args.row c.in-Some.job s.queued c.in-Some.is)
     ]
 
 pub invariant_of-self : goal.invariant_of-self
 invariant_of-self c =
     let s = c.args.self.now in
-    let e = c.in-Some-remove.ensures in
+    let out = c.in-Some-remove.ensures in
+    let is : out.0 ≡ turn_of c.args.row c.in-Some.job = search rules in
+    let e : Left sooner (turn_of c.args.row c.in-Some.job) s.turns s.held c.remove.new.heap c.in-Some-remove.held = subst (λ t. Left sooner t s.turns s.held c.remove.new.heap c.in-Some-remove.held) is out.2 in
     let l : c.args.row < length s.slots = omega (arith, c.requires.in_range) in
     let q = e.queue (omega arith, s.ordered) in
     record {
