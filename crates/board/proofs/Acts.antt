@@ -1,7 +1,9 @@
 -- Each call of the board is one step of the rules: what it does to the core and what it does to the alarm, put together. The
 -- wait that the alarm answered is the one that the step's entry names.
 use Rattle.std.proofs.Common.{◌≡◌, ℕ, ◌<◌, ◌≤◌, Bool, eqb, ◌⊎◌, Some, None, Ok, Err, Option, Result, sym, refl, ap, ◌∙◌, subst, inl, inr, arith, MatchResult}
+use Rattle.std.specs.Result.{IsErrAnd}
 use Rattle.std.proofs.lemmas.Bool.{eq-eqb, ne_eqb, cond-true, cond-false}
+use Rattle.alarm.specs.Effects.{Passed}
 use Rattle.alarm.specs.Meaning.{onward, rings}
 use Rattle.planner.specs.declared.plan.Plan.{Plan}
 use Rattle.refusal.specs.declared.cases.Refusal.{Refusal}
@@ -9,10 +11,10 @@ use Rattle.refusal.specs.declared.cases.Refusal.TheVariants.{ClockEnd}
 use Rattle.rules.specs.declared.slots.Mode.{Mode}
 use Rattle.rules.specs.declared.slots.Mode.TheVariants.{Asleep, Awake}
 use Rattle.rules.specs.declared.calls.Call.{Call}
-use Rattle.rules.specs.declared.calls.Call.TheVariants.{Tick, Report}
+use Rattle.rules.specs.declared.calls.Call.TheVariants.{Release, Done, Tick, Report}
 use Rattle.rules.specs.declared.calls.Status.{Status}
 use Rattle.rules.specs.declared.calls.Answer.{Answer}
-use Rattle.rules.specs.declared.calls.Answer.TheVariants.{Released, Closed, Ticked, Reported, Refused}
+use Rattle.rules.specs.declared.calls.Answer.TheVariants.{Released, Closed, Ticked, Reported}
 use Rattle.rules.specs.Plans.{limit}
 use Rattle.rules.specs.Views.{View, Rules, sleep_of}
 use Rattle.rules.specs.Steps.{Entry.released, Entry.done, Entry.ticked, Entry.reported, Entry.refused, Asked, Sets, Settles, Idle, Busy, Works, Step, mode_for, mode_after}
@@ -22,7 +24,7 @@ use Rattle.board.specs.declared.inner.Core.{Core}
 use Rattle.board.specs.Cores.{slots_of, view, rules_for, Refusing, Tells, Opens, Settled, Serves, Dozes, Shuts}
 use Rattle.alarm.specs.declared.base.Alarm.{Ghosts}
 use Rattle.board.specs.declared.board.Board.{Board}
-use Rattle.board.specs.Boards.{answer_for, Calmed, Passing, Does}
+use Rattle.board.specs.Boards.{rules_of, answer_for, Asking, Calmed, Passing, Arms, Does}
 
 -- what a calmed alarm means: with no job open it is unset
 abbrev Calms : Core → Option ℕ → Option ℕ → Type 0
@@ -61,19 +63,6 @@ sets R a s m w asked (inr (l, e, h)) = subst (λ x. Sets Asleep x R s (Some m) w
 
 pub same_rules : (p q : Plan) (r s g h : ℕ) → p ≡ q → r ≡ s → g ≡ h → rules_for p r g ≡ rules_for q s h
 same_rules p q r s g h a b c = cc
-
--- an accepted call is not refused
-pub not_released : {A : Type 0} (why : Refusal) → ◌≡◌ {A = Answer} Released (Refused why) → A
-not_released why e = let z : ◌≡◌ {A = ℕ} 0 1 = cc in absurd (omega arith)
-
-pub not_closed : {A : Type 0} (why : Refusal) → ◌≡◌ {A = Answer} Closed (Refused why) → A
-not_closed why e = let z : ◌≡◌ {A = ℕ} 0 1 = cc in absurd (omega arith)
-
-pub not_ticked : {A : Type 0} (who : Option ℕ) (rang : Bool) (why : Refusal) → ◌≡◌ {A = Answer} (Ticked who rang) (Refused why) → A
-not_ticked who rang why e = let z : ◌≡◌ {A = ℕ} 0 1 = cc in absurd (omega arith)
-
-pub not_reported : {A : Type 0} (status : Status) (why : Refusal) → ◌≡◌ {A = Answer} (Reported status) (Refused why) → A
-not_reported status why e = let z : ◌≡◌ {A = ℕ} 0 1 = cc in absurd (omega arith)
 
 module _ (reach grain : ℕ) (c : Core) (a : Option ℕ) where
   abbrev R : Rules
@@ -157,24 +146,108 @@ module _ (reach grain : ℕ) (c : Core) (a : Option ℕ) where
         settles = settles d c.mode a f s.settled k;
       })
 
+-- each call of a board, from what its core and its alarm did
+module _ {X : Type 0} (alarm : Ghosts X) (b : Board X) (call : Call) where
+  abbrev reach : ℕ
+  reach = alarm.reach b.alarm
+
+  abbrev grain : ℕ
+  grain = alarm.grain b.alarm
+
+  abbrev left : Option ℕ
+  left = alarm.meaning b.alarm
+
+  pub turned_away : (asked : Call) (why : Refusal) (r : Result Answer Refusal) (d : Core) → call ≡ asked → IsErrAnd r (λ e. e ≡ why)
+      → Refusing b.core asked why → d ≡ b.core → Does alarm b call r (record { core = d; alarm = b.alarm })
+  turned_away asked why (Ok x) d q e h same = absurd e
+  turned_away asked why (Err y) d q e h same =
+      record {
+        entry = refused asked why;
+        made = sym q;
+        told = ap Err (sym e);
+        step = refuses reach grain b.core left asked why d h same;
+        rules = ap (λ (x : Core). rules_for x.plan reach grain) same;
+        handles = refl;
+      }
+
+  pub opened_asleep : (row sleep : ℕ) (d : Core) (e : Board X) → call ≡ Release row → b.core.mode ≡ Asleep → Opens b.core row sleep d
+      → Arms alarm (record { core = d; alarm = b.alarm }) sleep e → Does alarm b call (Ok Released) e
+  opened_asleep row sleep d e q m o k =
+      record {
+        entry = released row k.wait;
+        made = sym q;
+        told = refl;
+        step = releases_asleep reach grain b.core left row sleep k.wait d e.core (alarm.meaning e.alarm) m o k.now k.ran k.slept k.slots k.sets;
+        rules = k.rules ∙ same_rules _ _ _ _ _ _ o.plan refl refl;
+        handles = subst (λ n. Asking alarm n k.wait b.alarm e.alarm) o.waits k.asking;
+      }
+
+  pub opened_awake : (row sleep : ℕ) (d : Core) → call ≡ Release row → b.core.mode ≡ Awake → Opens b.core row sleep d
+      → Does alarm b call (Ok Released) (record { core = d; alarm = b.alarm })
+  opened_awake row sleep d q m o =
+      record {
+        entry = released row None;
+        made = sym q;
+        told = refl;
+        step = releases_awake reach grain b.core left row sleep d m o;
+        rules = same_rules _ _ _ _ _ _ o.plan refl refl;
+        handles = refl;
+      }
+
+  -- d: a tick is slept through, and the ring has woken the board
+  pub dozed : (rang : Bool) (d : Core) (y : X) → call ≡ Tick → b.core.mode ≡ Asleep → rang ≡ rings left → Passed alarm b.alarm y → Dozes b.core rang d
+      → Does alarm b call (Ok (Ticked None rang)) (record { core = d; alarm = y })
+  dozed rang d y q m rung p z =
+      record {
+        entry = ticked None rang;
+        made = sym q;
+        told = refl;
+        step = ticks_asleep reach grain b.core left rang d (alarm.meaning y) m (omega (arith, z.now, d.clock)) rung p.0 z;
+        rules = same_rules _ _ _ _ _ _ z.plan p.1 p.2;
+        handles = (y, p, passing alarm b.core.mode Asleep d y y m refl);
+      }
+
+  -- d: a job got the tick; e: the alarm is calmed
+  pub served : (who : Option ℕ) (rang : Bool) (d : Core) (y : X) (e : Board X) → call ≡ Tick → b.core.mode ≡ Awake → rang ≡ rings left → Passed alarm b.alarm y
+      → Serves b.core who d → e.core ≡ d → Calmed alarm (slots_of d) y e.alarm → rules_of alarm e ≡ rules_for d.plan (alarm.reach y) (alarm.grain y)
+      → Does alarm b call (Ok (Ticked who rang)) e
+  served who rang d y e q m rung p s same k r =
+      record {
+        entry = ticked who rang;
+        made = sym q;
+        told = refl;
+        step = ticks_awake reach grain b.core left who rang d e.core (alarm.meaning y) (alarm.meaning e.alarm) m (omega (arith, s.now, d.clock)) rung p.0 s same
+            (calms alarm d y e.alarm k);
+        rules = r ∙ same_rules _ _ _ _ _ _ s.plan p.1 p.2;
+        handles = (y, p, passing alarm b.core.mode Awake e.core y e.alarm m (calmed_by alarm e.core d y e.alarm same k));
+      }
+
+  -- d: the job is closed; e: the alarm is calmed
+  pub shut : (row : ℕ) (d : Core) (e : Board X) → call ≡ Done row → Shuts b.core row d → e.core ≡ d → Calmed alarm (slots_of d) b.alarm e.alarm
+      → rules_of alarm e ≡ rules_for d.plan reach grain → Does alarm b call (Ok Closed) e
+  shut row d e q s same k r =
+      record {
+        entry = done row;
+        made = sym q;
+        told = refl;
+        step = closes reach grain b.core left row d e.core (alarm.meaning e.alarm) s same (calms alarm d b.alarm e.alarm k);
+        rules = r ∙ same_rules _ _ _ _ _ _ s.plan refl refl;
+        handles = calmed_by alarm e.core d b.alarm e.alarm same k;
+      }
+
+  pub told_of : (row : ℕ) (status : Status) → call ≡ Report row → Tells b.core row status → Does alarm b call (Ok (Reported status)) b
+  told_of row status q t =
+      record {
+        entry = reported row status;
+        made = sym q;
+        told = refl;
+        step = reports reach grain b.core left row status t;
+        rules = refl;
+        handles = refl;
+      }
+
 -- a report is made of the board as it is
 pub reports_any : {X : Type 0} (alarm : Ghosts X) (b : Board X) (row : ℕ) (r : Result Status Refusal) → MatchResult r (Tells b.core row) (Refusing b.core (Report row))
     → Does alarm b (Report row) (answer_for Reported r) b
-reports_any alarm b row (Ok status) h =
-    record {
-      entry = reported row status;
-      made = refl;
-      told = refl;
-      step = reports (alarm.reach b.alarm) (alarm.grain b.alarm) b.core (alarm.meaning b.alarm) row status h;
-      rules = refl;
-      handles = refl;
-    }
-reports_any alarm b row (Err why) h =
-    record {
-      entry = refused (Report row) why;
-      made = refl;
-      told = refl;
-      step = refuses (alarm.reach b.alarm) (alarm.grain b.alarm) b.core (alarm.meaning b.alarm) (Report row) why b.core h refl;
-      rules = refl;
-      handles = refl;
-    }
+reports_any alarm b row (Ok status) h = told_of alarm b (Report row) row status refl h
+reports_any alarm b row (Err why) h = turned_away alarm b (Report row) (Report row) why (Err why) b.core refl refl h refl

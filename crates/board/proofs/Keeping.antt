@@ -1,10 +1,7 @@
 -- The facts that a board keeps of its slots, through a write to one of them and through a tick; and how a part of an event is
 -- told of the whole.
-use Rattle.std.proofs.Common.{◌≡◌, ℕ, ◌+◌, ◌-◌, ◌<◌, ◌≤◌, Bool, true, false, leb, ◌⊎◌, List, length, take, set, replicate, Some, None, MatchBool, Option, sym, refl, ap, ◌∙◌, subst, inl, inr, arith}
-use Rattle.std.proofs.lemmas.Bool.{cases_lt, le-leb, lt-leb}
+use Rattle.std.proofs.Common.{◌≡◌, ℕ, ◌+◌, ◌<◌, ◌≤◌, Bool, true, false, List, length, take, set, replicate, Some, None, MatchBool, Option, sym, ap, ◌∙◌, subst, arith}
 use Rattle.std.proofs.lemmas.List.{take-replicate}
-use Rattle.rules.specs.declared.slots.Mode.{Mode}
-use Rattle.rules.specs.declared.slots.Mode.TheVariants.{Asleep}
 use Rattle.rules.specs.declared.slots.Job.{Job}
 use Rattle.rules.specs.declared.slots.Slot.{Slot}
 use Rattle.table.specs.declared.task.Task.{Task}
@@ -12,23 +9,17 @@ use Rattle.table.specs.Tasks.{task_at}
 use Rattle.planner.specs.Plans.{planned, sleeps_of}
 use Rattle.planner.specs.Sleeps.{sleep_at}
 use Rattle.planner.proofs.Plans.{tasks_count}
-use Rattle.refusal.specs.declared.cases.Refusal.TheVariants.{TooSoon, NoOpenJob, NotBegun}
-use Rattle.rules.specs.declared.calls.Call.TheVariants.{Release, Done}
 use Rattle.rules.specs.Views.{empty, slot_at, job_at, opened, closed, fed}
-use Rattle.rules.specs.declared.calls.Status.{Status}
-use Rattle.rules.specs.Steps.{Idle, Busy, Apart, Soon, status_for}
-use Rattle.rules.proofs.Cells.{all_set, none_some, some_same, slot_fresh, fed_last}
+use Rattle.rules.specs.Steps.{Idle, Busy, Apart, mode_after}
+use Rattle.rules.proofs.Cells.{all_set, none_some, slot_fresh, fed_last}
 use Rattle.board.specs.declared.inner.Core.{Core}
-use Rattle.board.specs.Cores.{rows, slots_of, view, Same, Refusing, Opens, Settled, Gives, Advances, Serves, Shuts}
+use Rattle.board.specs.Cores.{rows, slots_of, Same, Opens, Settled, Gives, Advances, Serves, Dozes, Shuts}
 use Rattle.board.specs.Jobs.{Foremost}
 use Rattle.board.proofs.Fronts.{Below, front_slot, front_job, front_set, front_idle, front_busy, front_chosen}
 
 -- every last release is past
 abbrev pub Past : ℕ → List Slot → Type 0
 Past now slots = (row t : ℕ) → (slot_at slots row).last ≡ Some t → t ≤ now
-
-pub past_more : (now : ℕ) (slots : List Slot) → Past now slots → Past (now + 1) slots
-past_more now slots h row t e = omega (arith, h row t e)
 
 pub past_set : (now : ℕ) (slots : List Slot) (row : ℕ) (s : Slot) → row < length slots → ((t : ℕ) → s.last ≡ Some t → t ≤ now)
     → Past now slots → Past now (set slots row s)
@@ -42,24 +33,6 @@ pub idle_or_busy_front : (n : ℕ) (slots : List Slot) (idle : Bool) → Below n
     → MatchBool idle (Idle (take n slots)) (Busy (take n slots))
 idle_or_busy_front n slots true b h = front_idle n slots b h
 idle_or_busy_front n slots false b h = front_busy n slots b h
-
--- the board is settled once it is asleep with no job open
-pub settled_idle : (n : ℕ) (slots : List Slot) (m : Mode) → Below n slots → Idle slots → (Idle (take n slots) × (Asleep ≡ Asleep)) ⊎ (Busy (take n slots) × (Asleep ≡ m))
-settled_idle n slots m b i = inl (front_idle n slots b i, refl)
-
-pub settled_busy : (n : ℕ) (slots : List Slot) (m : Mode) → Below n slots → Busy slots → (Idle (take n slots) × (m ≡ Asleep)) ⊎ (Busy (take n slots) × (m ≡ m))
-settled_busy n slots m b i = inr (front_busy n slots b i, refl)
-
-pub apart_some : (now gap last : ℕ) (o : Option ℕ) → o ≡ Some last → last ≤ now → MatchBool (leb gap (now - last)) (Apart o gap now) (Soon o gap now)
-apart_some now gap last None e l = absurd (none_some e)
-apart_some now gap last (Some x) e l = go (cases_lt (now - last) gap)
-  where
-    q : x ≡ last
-    q = some_same e
-
-    go : (now - last < gap) ⊎ (gap ≤ now - last) → MatchBool (leb gap (now - last)) (x + gap ≤ now) (now < x + gap)
-    go (inl h) = subst (λ b. MatchBool b (x + gap ≤ now) (now < x + gap)) (sym (lt-leb gap (now - last) h)) (omega (arith, q))
-    go (inr h) = subst (λ b. MatchBool b (x + gap ≤ now) (now < x + gap)) (sym (le-leb gap (now - last) h)) (omega (arith, q))
 
 -- the slots of the rows are those of the same jobs
 pub slots_same : (c d : Core) → Same c d → slots_of d ≡ slots_of c
@@ -101,20 +74,6 @@ slot_front c row l = front_slot (rows c) c.jobs.slots row l
 pub job_front : (c : Core) (row : ℕ) → job_at (slots_of c) row ≡ job_at c.jobs.slots row
 job_front c row = front_job (rows c) c.jobs.slots c.listed row
 
--- a last release that stays is past
-pub last_past : (c : Core) (row : ℕ) (s : Slot) → s.last ≡ (slot_at c.jobs.slots row).last → (t : ℕ) → s.last ≡ Some t → t ≤ c.now
-last_past c row s e t h = c.past row t (sym e ∙ h)
-
-pub refuses_soon : (c : Core) (row gap : ℕ) → row < rows c → gap ≡ (task_at (planned c.plan) row).gap
-    → Soon (slot_at c.jobs.slots row).last gap c.now → Refusing c (Release row) TooSoon
-refuses_soon c row gap l e h reach grain a =
-    inr (
-      refl,
-      l,
-      subst (λ (s : Slot). Soon s.last (task_at (planned c.plan) row).gap c.now) (sym (slot_front c row l))
-          (subst (λ g. Soon (slot_at c.jobs.slots row).last g c.now) e h),
-    )
-
 pub opens : (c d : Core) (row sleep : ℕ) (task : Task) → row < rows c → task ≡ task_at (planned c.plan) row
     → Apart (slot_at c.jobs.slots row).last task.gap c.now → sleep ≡ sleep_at (sleeps_of c.plan) row
     → d.plan ≡ c.plan → d.now ≡ c.now → d.ran ≡ c.ran → d.slept ≡ c.slept → d.mode ≡ c.mode
@@ -134,13 +93,6 @@ opens c d row sleep task l q a s plan now ran slept mode e =
           ∙ (write_front c d.jobs.slots row (opened c.now (c.now + task.due)) l e
           ∙ ap (λ (x : Task). set (slots_of c) row (opened c.now (c.now + x.due))) q);
     }
-
--- why a job is not closed
-pub refuses_closed : (c : Core) (row : ℕ) → row < rows c → job_at c.jobs.slots row ≡ None → Refusing c (Done row) NoOpenJob
-refuses_closed c row l e reach grain a = inr (inl (refl, l, job_front c row ∙ e))
-
-pub refuses_unbegun : (c : Core) (row : ℕ) (j : Job) → row < rows c → job_at c.jobs.slots row ≡ Some j → j.given ≡ 0 → Refusing c (Done row) NotBegun
-refuses_unbegun c row j l e g reach grain a = inr (inr (refl, l, (j, job_front c row ∙ e, g)))
 
 -- m: the job is closed; d: the board has settled
 pub shuts : (c m d : Core) (row : ℕ) (j : Job) → row < rows c → job_at c.jobs.slots row ≡ Some j → 0 < j.given
@@ -212,11 +164,14 @@ pub serves_none : (who : Option ℕ) (c m n d : Core) → who ≡ None → m ≡
 serves_none who c m n d p q plan now ran slept mode slots i s settled =
     serves_by who None c m n d p q (rests c n plan ran slots i) (record { plan = plan; now = now; slept = slept; mode = mode }) s settled
 
--- the status of a row without a job, and with one
-pub tells_none : (c : Core) (row : ℕ) (a : Option ℕ) → job_at c.jobs.slots row ≡ None
-    → ◌≡◌ {A = Status} (record { now = c.now; ran = c.ran; slept = c.slept; busy = false; due = 0; given = 0 }) (status_for (view c a) (job_at (slots_of c) row))
-tells_none c row a e = sym (ap (status_for (view c a)) (job_front c row ∙ e))
-
-pub tells_some : (c : Core) (row : ℕ) (j : Job) (a : Option ℕ) → job_at c.jobs.slots row ≡ Some j
-    → ◌≡◌ {A = Status} (record { now = c.now; ran = c.ran; slept = c.slept; busy = true; due = j.due; given = j.given }) (status_for (view c a) (job_at (slots_of c) row))
-tells_some c row j a e = sym (ap (status_for (view c a)) (job_front c row ∙ e))
+-- a ring wakes the board after the tick that it slept through
+pub rung : (rang : Bool) (c d e : Core) → Dozes c false d → Same d e → e.mode ≡ mode_after rang → Dozes c rang e
+rung rang c d e z same mode =
+    record {
+      plan = same.plan ∙ z.plan;
+      now = same.now ∙ z.now;
+      ran = same.ran ∙ z.ran;
+      slept = same.slept ∙ z.slept;
+      slots = slots_same d e same ∙ z.slots;
+      mode = mode;
+    }

@@ -1,12 +1,13 @@
 -- A new board is as the rules have it, and its plan is one that the promises ask for: so every run from it keeps them. A
 -- list of calls, each answered by a step, is such a run.
-use Rattle.std.proofs.Common.{◌≡◌, ℕ, ◌+◌, ◌<◌, ◌≤◌, List, [], ◌∷◌, ◌++◌, length, None, Option, sym, refl, ap, ◌∙◌, subst, arith}
+use Rattle.std.proofs.Common.{◌≡◌, ℕ, ◌+◌, ◌<◌, ◌≤◌, List, [], ◌∷◌, ◌++◌, length, None, Option, Result, sym, refl, ap, ◌∙◌, subst, arith}
 use Rattle.table.specs.Tasks.{task_at}
 use Rattle.planner.specs.declared.plan.Plan.{Plan}
 use Rattle.planner.specs.Demand.{need}
 use Rattle.planner.specs.Sleeps.{sleep_at}
 use Rattle.planner.specs.Plans.{planned, sleeps_of}
 use Rattle.planner.proofs.Plans.{tasks_count, sleeps_count, plan_met}
+use Rattle.refusal.specs.declared.cases.Refusal.{Refusal}
 use Rattle.rules.specs.declared.calls.Call.{Call}
 use Rattle.rules.specs.declared.calls.Answer.{Answer}
 use Rattle.rules.specs.Views.{View, Rules, count, fresh}
@@ -55,13 +56,13 @@ promised p reach grain v R e q =
     subst (λ x. Promised x v) (sym q) (subst (Promised (rules_for p reach grain)) (sym e) (promises_kept (rules_for p reach grain) (plan_planned p)))
 
 -- the calls made so far, with their answers
-pub record Replaying (R : Rules) (v : View) (calls : List Call) (answers : List Answer) (w : View) : Type 0 where
+pub record Replaying (R : Rules) (v : View) (calls : List Call) (answers : List (Result Answer Refusal)) (w : View) : Type 0 where
   pub log : List Entry
   pub run : Runs R v log w
   pub made : calls_of log ≡ calls
   pub told : answers_of log ≡ answers
 
-pub replaying_none : (R : Rules) (v : View) (answers : List Answer) → answers ≡ [] → Replaying R v [] answers v
+pub replaying_none : (R : Rules) (v : View) (answers : List (Result Answer Refusal)) → answers ≡ [] → Replaying R v [] answers v
 replaying_none R v answers e = record { log = []; run = refl; made = refl; told = sym e }
 
 calls_more : (log : List Entry) (e : Entry) → calls_of (log ++ (e ∷ [])) ≡ calls_of log ++ (call_of e ∷ [])
@@ -73,7 +74,7 @@ answers_more [] e = refl
 answers_more (x ∷ log) e = ap (λ l. answer_of x ∷ l) (answers_more log e)
 
 -- one call more, made by the same rules
-pub replaying_more : (R S : Rules) (v u w : View) (calls more : List Call) (answers told : List Answer) (call : Call) (answer : Answer) (e : Entry) → S ≡ R
+pub replaying_more : (R S : Rules) (v u w : View) (calls more : List Call) (answers told : List (Result Answer Refusal)) (call : Call) (answer : Result Answer Refusal) (e : Entry) → S ≡ R
     → Replaying R v calls answers u → call_of e ≡ call → answer_of e ≡ answer → Step S u e w
     → more ≡ calls ++ (call ∷ []) → told ≡ answers ++ (answer ∷ []) → Replaying R v more told w
 replaying_more R S v u w calls more answers told call answer e q r made tells step p t =
@@ -84,7 +85,7 @@ replaying_more R S v u w calls more answers told call answer e q r made tells st
       told = answers_more r.log e ∙ (ap (λ l. l ++ (answer_of e ∷ [])) r.told ∙ (ap (λ x. answers ++ (x ∷ [])) tells ∙ sym t));
     }
 
-pub replayed : (R S : Rules) (v w : View) (calls all : List Call) (answers : List Answer) → S ≡ R → v ≡ fresh (count R) → calls ≡ all
+pub replayed : (R S : Rules) (v w : View) (calls all : List Call) (answers : List (Result Answer Refusal)) → S ≡ R → v ≡ fresh (count R) → calls ≡ all
     → Replaying S v calls answers w → Promised S v → Replayed R all answers
 replayed R S v w calls all answers q e p r promise =
     record {
@@ -96,7 +97,7 @@ replayed R S v w calls all answers q e p r promise =
     }
 
 module _ {X : Type 0} (alarm : Ghosts X) where
-  acts_more : (calls : List Call) (answers : List Answer) (b u d : Board X) (call : Call) (answer : Answer) → Acts alarm b calls answers u → Does alarm u call answer d
+  acts_more : (calls : List Call) (answers : List (Result Answer Refusal)) (b u d : Board X) (call : Call) (answer : Result Answer Refusal) → Acts alarm b calls answers u → Does alarm u call answer d
       → Acts alarm b (calls ++ (call ∷ [])) (answers ++ (answer ∷ [])) d
   acts_more [] [] b u d call answer e does = (d, subst (λ x. Does alarm x call answer d) e does, refl)
   acts_more [] (a ∷ answers) b u d call answer e does = absurd e
@@ -104,12 +105,12 @@ module _ {X : Type 0} (alarm : Ghosts X) where
   acts_more (c ∷ calls) (a ∷ answers) b u d call answer (x, first, rest) does = (x, first, acts_more calls answers x u d call answer rest does)
 
   -- the calls made so far lead from the board b to the board d
-  pub record Acting (b : Board X) (calls : List Call) (answers : List Answer) (d : Board X) : Type 0 where
+  pub record Acting (b : Board X) (calls : List Call) (answers : List (Result Answer Refusal)) (d : Board X) : Type 0 where
     pub rules : rules_of alarm d ≡ rules_of alarm b
     pub replaying : Replaying (rules_of alarm b) (view_of alarm b) calls answers (view_of alarm d)
     pub acts : Acts alarm b calls answers d
 
-  pub acting_none : (b : Board X) (answers : List Answer) → answers ≡ [] → Acting b [] answers b
+  pub acting_none : (b : Board X) (answers : List (Result Answer Refusal)) → answers ≡ [] → Acting b [] answers b
   acting_none b answers e =
       record {
         rules = refl;
@@ -117,7 +118,7 @@ module _ {X : Type 0} (alarm : Ghosts X) where
         acts = subst (λ told. Acts alarm b [] told b) (sym e) refl;
       }
 
-  pub acting_more : (b u d : Board X) (calls more : List Call) (answers told : List Answer) (call : Call) (answer : Answer) → Acting b calls answers u → Does alarm u call answer d
+  pub acting_more : (b u d : Board X) (calls more : List Call) (answers told : List (Result Answer Refusal)) (call : Call) (answer : Result Answer Refusal) → Acting b calls answers u → Does alarm u call answer d
       → more ≡ calls ++ (call ∷ []) → told ≡ answers ++ (answer ∷ []) → Acting b more told d
   acting_more b u d calls more answers told call answer a does p t =
       record {
@@ -128,7 +129,7 @@ module _ {X : Type 0} (alarm : Ghosts X) where
             (subst (λ xs. Acts alarm b (calls ++ (call ∷ [])) xs d) (sym t) (acts_more calls answers b u d call answer a.acts does));
       }
 
-  pub replays : (plan : Plan) (x : X) (b d : Board X) (calls all : List Call) (answers : List Answer) → Built alarm plan x b → Promised (rules_of alarm b) (view_of alarm b)
+  pub replays : (plan : Plan) (x : X) (b d : Board X) (calls all : List Call) (answers : List (Result Answer Refusal)) → Built alarm plan x b → Promised (rules_of alarm b) (view_of alarm b)
       → calls ≡ all → Acting b calls answers d → Replays alarm plan x all answers
   replays plan x b d calls all answers built promise e a =
       record {

@@ -1,16 +1,17 @@
 -- The queue holds the turns of the open jobs. Since every sum over the turns is the sum over the slots, the number of turns is
 -- that of the open jobs, and a turn is held just if its row has an open job with that due tick: sum the measure that is 1 at
 -- that turn alone. A write to one slot changes such a sum by what the slot was and is worth.
-use Rattle.std.proofs.Common.{◌≡◌, ℕ, zero, suc, ◌+◌, ◌<◌, ◌≤◌, false, cond, ◌&&◌, eqb, ◌⊎◌, List, [], ◌∷◌, length, get_or, take, set, replicate, Some, None, MatchBool, sum_by, Option, sym, refl, ap, ◌∙◌, subst, inl, inr, arith}
+use Rattle.std.proofs.Common.{◌≡◌, ℕ, zero, suc, ◌+◌, ◌<◌, ◌≤◌, false, cond, ◌&&◌, eqb, ◌⊎◌, List, [], ◌∷◌, length, get_or, take, set, replicate, Some, None, MatchBool, MatchOption, sum_by, Option, sym, refl, ap, ◌∙◌, subst, inl, inr, arith}
 use Rattle.std.specs.List.Sorted.{IsPermutation}
 use Rattle.std.specs.List.{ContainsAt}
-use Rattle.std.proofs.lemmas.List.{length-set}
+use Rattle.std.specs.Option.{IsSomeAnd}
+use Rattle.std.proofs.lemmas.List.{length-set, length-take-le}
 use Rattle.std.proofs.lemmas.List.Sums.{sum_by-cons, get_or-le-sum_by}
 use Rattle.std.proofs.lemmas.List.Sorted.{sum_by-IsPermutation}
 use Rattle.std.proofs.ByRecursion.{all-has}
 use Rattle.std.proofs.lemmas.Bool.{cases_eq, cases_lt, cond-false, eq-eqb, ne_eqb}
 use Rattle.planner.specs.Demand.{sum_to}
-use Rattle.queue.specs.Queue.{First, Queue}
+use Rattle.queue.specs.Queue.{First, Queue, Vacant}
 use Rattle.rules.specs.declared.slots.Job.{Job}
 use Rattle.rules.specs.declared.slots.Slot.{Slot}
 use Rattle.rules.specs.Views.{empty, job_at}
@@ -19,6 +20,7 @@ use Rattle.planner.proofs.Sums.{sum_to_none}
 use Rattle.rules.proofs.Sums.{sum_to_at, sum_to_change}
 use Rattle.rules.proofs.Cells.{within, cases_job, slot_set, slot_other, slot_fresh}
 use Rattle.board.specs.declared.turn.Turn.{Turn}
+use Rattle.board.specs.Jobs.{Foremost}
 use Rattle.board.specs.Turns.{sooner, turn_of, worth, Queued}
 
 -- the sum over the open jobs
@@ -195,6 +197,16 @@ first_chosen slots turns n x q ok first =
       ),
     )
 
+-- the row of the first turn, if any is held, is that of the job that is chosen
+pub foremost_row : (slots : List Slot) (turns : List Turn) (n : ℕ) (o : Option Turn) (r : Option ℕ) → Queued slots (take n turns) → Queue sooner turns n
+    → MatchOption o (Vacant turns n) (λ x. First sooner x turns n) → MatchOption o (r ≡ None) (λ x. IsSomeAnd r (λ row. row ≡ x.row)) → Foremost slots r
+foremost_row slots turns n None r q ok empty e =
+    let none : length (take n turns) ≡ 0 = omega (arith, length-take-le n turns ok.0, ok.0, empty) in
+    subst (Foremost slots) (sym e) (none_idle slots (take n turns) q none)
+foremost_row slots turns n (Some x) None q ok first e = absurd e
+foremost_row slots turns n (Some x) (Some row) q ok first e =
+    subst (λ i. Foremost slots (Some i)) (sym e) (first_chosen slots turns n x q ok first)
+
 pub queued_fresh : Queued (replicate 64 empty) []
 queued_fresh f = sym (sum_to_none (length (replicate 64 empty)) (λ i. worth f i (job_at (replicate 64 empty) i)) (λ i l. ap (λ (s : Slot). worth f i s.job) (slot_fresh 64 i)))
 
@@ -209,10 +221,3 @@ pub queued_left : (slots : List Slot) (old new : List Turn) (row : ℕ) (s : Slo
     → Queued slots old → IsPermutation old (turn_of row j ∷ new) → Queued (set slots row s) new
 queued_left slots old new row s j l e p q h =
     queued_write slots old new row s l q (λ f. omega (arith, sum_leaves f (turn_of row j) old new h, ap (worth f row) e, ap (worth f row) p))
-
--- a job that keeps its due tick keeps its turn
-pub queued_kept : (slots : List Slot) (turns : List Turn) (row : ℕ) (s : Slot) (j k : Job) → row < length slots → job_at slots row ≡ Some j → s.job ≡ Some k
-    → k.due ≡ j.due → Queued slots turns → Queued (set slots row s) turns
-queued_kept slots turns row s j k l e p d q =
-    queued_write slots turns turns row s l q
-    (λ f. omega (arith, ap (worth f row) e, ap (worth f row) p, ap (λ n. f (record { due = n; row = row })) d))

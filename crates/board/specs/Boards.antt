@@ -18,7 +18,6 @@ use Rattle.rules.specs.declared.slots.Mode.TheVariants.{Asleep, Awake}
 use Rattle.rules.specs.declared.slots.Slot.{Slot}
 use Rattle.rules.specs.declared.calls.Call.{Call}
 use Rattle.rules.specs.declared.calls.Answer.{Answer}
-use Rattle.rules.specs.declared.calls.Answer.TheVariants.{Refused}
 use Rattle.planner.specs.declared.plan.Plan.{Plan}
 use Rattle.planner.specs.Plans.{planned}
 use Rattle.rules.specs.Views.{View, Rules, sleep_of, fresh}
@@ -28,9 +27,10 @@ use Rattle.rules.specs.Promises.{Replayed}
 use Rattle.board.specs.declared.board.Board.{Board}
 use Rattle.board.specs.Cores.{view, rules_for}
 
-abbrev pub answer_for : {X : Type 0} → (X → Answer) → Result X Refusal → Answer
-answer_for accepted (Ok x) = accepted x
-answer_for accepted (Err why) = Refused why
+-- the answer that stands for what an accepted call's function returned
+abbrev pub answer_for : {X : Type 0} → (X → Answer) → Result X Refusal → Result Answer Refusal
+answer_for accepted (Ok x) = Ok (accepted x)
+answer_for accepted (Err why) = Err why
 
 module _ {X : Type 0} (alarm : Ghosts X) where
   abbrev pub view_of : Board X → View
@@ -62,7 +62,7 @@ module _ {X : Type 0} (alarm : Ghosts X) where
   Handles R v (refused call why) w x y = y ≡ x
 
   -- the wait that the alarm answered stands in the entry
-  pub record Does (b : Board X) (call : Call) (answer : Answer) (d : Board X) : Type 0 where
+  pub record Does (b : Board X) (call : Call) (answer : Result Answer Refusal) (d : Board X) : Type 0 where
     pub entry : Entry
     pub made : call_of entry ≡ call
     pub told : answer_of entry ≡ answer
@@ -70,7 +70,7 @@ module _ {X : Type 0} (alarm : Ghosts X) where
     pub rules : rules_of d ≡ rules_of b
     pub handles : Handles (rules_of b) (view_of b) entry (view_of d) b.alarm d.alarm
 
-  abbrev pub Acts : Board X → List Call → List Answer → Board X → Type 0
+  abbrev pub Acts : Board X → List Call → List (Result Answer Refusal) → Board X → Type 0
   Acts b [] [] d = d ≡ b
   Acts b [] (answer ∷ answers) d = ⊥
   Acts b (call ∷ calls) [] d = ⊥
@@ -82,7 +82,7 @@ module _ {X : Type 0} (alarm : Ghosts X) where
     pub cleared : Cleared alarm x b.alarm
 
   -- what an alarm's own effects leave open, they leave open here, and nothing else
-  pub record Replays (plan : Plan) (x : X) (calls : List Call) (answers : List Answer) : Type 0 where
+  pub record Replays (plan : Plan) (x : X) (calls : List Call) (answers : List (Result Answer Refusal)) : Type 0 where
     pub replayed : Replayed (rules_for plan (alarm.reach x) (alarm.grain x)) calls answers
     pub first : Board X
     pub built : Built plan x first

@@ -9,6 +9,14 @@ use table::rows::MOST_ROWS;
 
 mod moves;
 
+/// A row that has a slot.
+#[derive(Clone, Copy)]
+pub struct KnownRow {
+    pub row: usize,
+    ghost in_range: { row < 64 },
+}
+
+// Arrays with the number held beside them: a board has no heap, and the queue works on a slice that is lent to it.
 /// The slots, and the turns of the jobs that are open in them, the first `held` of the array.
 #[derive(Drop)]
 pub struct Jobs {

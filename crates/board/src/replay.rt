@@ -7,6 +7,7 @@ ghost use Rattle.board.specs.Cores.{rules_for};
 use crate::board::Board;
 use alarm::base::Alarm;
 use planner::plan::Plan;
+use refusal::cases::Refusal;
 use rules::calls::{Answer, Call};
 use std::alloc::{AllocError, Global};
 
@@ -18,12 +19,13 @@ pub fn replay<T: Alarm + Drop>(
     plan: Plan,
     alarm: T,
     calls: &[Call],
-) -> Result<Vec<Answer>, AllocError>
+) -> Result<Vec<Result<Answer, Refusal>>, AllocError>
     ensures promise { IfOk result (λ answers. Replayed (rules_for plan (T.reach alarm) (T.grain alarm)) calls.now answers.items) }
     ensures acts { IfOk result (λ answers. Replays T.Alarm plan alarm calls.now answers.items) }
 {
     let mut board = Board::new(plan, alarm);
     let mut answers = Vec::new(heap);
+    // A loop and no chain: of a closure that changes the board a proof does not know what it answered.
     for call in calls {
         answers.push(board.act(*call))?;
     }

@@ -1,9 +1,10 @@
 -- Each call adds a step to the run and its record to those written. What is written so far is the front of the answers,
 -- and their rest is as it was.
-use Rattle.std.proofs.Common.{◌≡◌, ℕ, ◌+◌, ◌<◌, ◌≤◌, List, [], ◌∷◌, ◌++◌, map, length, get_or, take, drop, set, sym, refl, ap, ◌∙◌, subst, le_refl, arith}
+use Rattle.std.proofs.Common.{◌≡◌, ℕ, ◌+◌, ◌<◌, ◌≤◌, List, [], ◌∷◌, ◌++◌, map, length, get_or, take, drop, set, Result, sym, refl, ap, ◌∙◌, subst, le_refl, arith}
 use native.Mathlib.Numerals.{lt-add-one}
 use Rattle.std.proofs.lemmas.List.{take_more_set, drop-set-lt, drop-drop, map_push, map_more, take_all}
 use Rattle.alarm.specs.declared.base.Alarm.{Ghosts}
+use Rattle.refusal.specs.declared.cases.Refusal.{Refusal}
 use Rattle.planner.specs.declared.plan.Plan.{Plan}
 use Rattle.rules.specs.declared.calls.Call.{Call}
 use Rattle.rules.specs.declared.calls.Answer.{Answer}
@@ -30,7 +31,7 @@ rest_more i before after y e =
 module _ {X : Type 0} (alarm : Ghosts X) where
   -- the first i calls are made, and lead from the board b to the board d
   pub record Answering (b : Board X) (i : ℕ) (codes : List ℕ) (before after : List AnswerRecord) (d : Board X) : Type 0 where
-    pub answers : List Answer
+    pub answers : List (Result Answer Refusal)
     pub acting : Acting alarm b (map decoded (take i codes)) answers d
     pub written : take i after ≡ map encoded answers
     pub rest : drop i after ≡ drop i before
@@ -44,7 +45,7 @@ module _ {X : Type 0} (alarm : Ghosts X) where
         rest = refl;
       }
 
-  pub answering_more : (b u d : Board X) (i : ℕ) (codes : List ℕ) (before after : List AnswerRecord) (call : Call) (answer : Answer) (y : AnswerRecord)
+  pub answering_more : (b u d : Board X) (i : ℕ) (codes : List ℕ) (before after : List AnswerRecord) (call : Call) (answer : Result Answer Refusal) (y : AnswerRecord)
       → i < length codes → i < length after → Answering b i codes before after u → call ≡ decoded (get_or codes i 0) → Does alarm u call answer d → y ≡ encoded answer
       → Answering b (i + 1) codes before (set after i y) d
   answering_more b u d i codes before after call answer y l k a asked does told =

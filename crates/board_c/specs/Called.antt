@@ -5,7 +5,7 @@
 --   no_such_alarm, too_few_places  what is answered for another alarm, and for more calls than places
 --   Unmade                         why no call was made
 --   Called                         the whole promise
-use Rattle.std.specs.Prelude.{◌≡◌, ℕ, ◌<◌, ◌≤◌, ◌⊎◌, List, map, length, take, drop, Ok, Err}
+use Rattle.std.specs.Prelude.{◌≡◌, ℕ, ◌<◌, ◌≤◌, ◌⊎◌, List, map, length, take, drop, Ok, Err, Result}
 use Rattle.refusal.specs.declared.cases.Refusal.{Refusal}
 use Rattle.refusal.specs.declared.cases.Refusal.TheVariants.{WarmUpLimit}
 use Rattle.refusal.specs.Records.{number_of}
@@ -32,7 +32,7 @@ use Rattle.board_c.specs.Codes.{decoded, encoded}
 
 -- over the alarm x; what stood past the records stays
 pub record Answered {X : Type 0} (alarm : Ghosts X) (plan : Plan) (x : X) (codes : List ℕ) (before after : List AnswerRecord) : Type 0 where
-  pub answers : List Answer
+  pub answers : List (Result Answer Refusal)
   pub replays : Replays alarm plan x (map decoded codes) answers
   pub written : take (length codes) after ≡ map encoded answers
   pub rest : drop (length codes) after ≡ drop (length codes) before

@@ -1,11 +1,13 @@
 //! A call from its number, and the record of an answer.
 ghost use Rattle.std.specs.Prelude.{◌≡◌};
-ghost use Rattle.rules.specs.Logs.{one};
-ghost use Rattle.board_c.specs.Codes.{decoded, encoded, blank};
+ghost use Rattle.rules.specs.declared.calls.Answer.TheVariants.{Reported};
+ghost use Rattle.board_c.specs.Codes.{decoded, encoded};
 
 use crate::record::AnswerRecord;
-use rules::calls::{Answer, Call};
+use refusal::cases::Refusal;
+use rules::calls::{Answer, Call, Status};
 
+// The kinds are numbers and no enums, since they cross to C.
 /// How many kinds of calls there are: a call is this many times its row, and its kind.
 const KINDS: u64 = 4;
 
@@ -24,6 +26,7 @@ const REFUSED: u32 = 4;
 pub(crate) fn decode(code: u64) -> Call
     ensures { result ≡ decoded code }
 {
+    // By `as`, since no `From` leads from u64 to usize.
     let row = (code / KINDS) as usize;
     match code % KINDS {
         0 => Call::Release(row),
@@ -33,60 +36,57 @@ pub(crate) fn decode(code: u64) -> Call
     }
 }
 
-/// 1 for yes, 0 for no.
-fn flag(yes: bool) -> u32
-    ensures { result ≡ one yes }
+/// The record of a report. Without an open job its fields are 0.
+fn reported(status: Status) -> AnswerRecord
+    ensures { result ≡ encoded (Ok (Reported status)) }
 {
-    if yes { 1 } else { 0 }
-}
-
-/// The record of a kind that names nothing.
-fn bare(kind: u32) -> AnswerRecord
-    ensures { result ≡ blank kind }
-{
+    let (due, given) = status.job.map_or((0, 0), |job| (job.due, job.given));
     AnswerRecord {
-        now: 0,
-        ran: 0,
-        slept: 0,
-        due: 0,
-        row: 0,
-        kind,
-        number: 0,
-        busy: 0,
-        rang: 0,
-        given: 0,
+        kind: REPORTED,
+        now: status.now,
+        ran: status.ran,
+        slept: status.slept,
+        busy: u32::from(status.job.is_some()),
+        due,
+        given,
+        ..AnswerRecord::default()
     }
 }
 
-/// The record of an answer.
-pub(crate) fn encode(answer: Answer) -> AnswerRecord
-    ensures { result ≡ encoded answer }
-{
-    match answer {
-        Answer::Released => bare(RELEASED),
-        Answer::Closed => bare(CLOSED),
-        Answer::Ticked(None, rang) => AnswerRecord {
-            rang: flag(rang),
-            ..bare(TICKED)
-        },
-        Answer::Ticked(Some(row), rang) => AnswerRecord {
-            row: row as u64,
-            busy: 1,
-            rang: flag(rang),
-            ..bare(TICKED)
-        },
-        Answer::Reported(status) => AnswerRecord {
-            now: status.now,
-            ran: status.ran,
-            slept: status.slept,
-            due: status.due,
-            busy: flag(status.busy),
-            given: status.given,
-            ..bare(REPORTED)
-        },
-        Answer::Refused(why) => AnswerRecord {
-            number: why.record().number,
-            ..bare(REFUSED)
-        },
+/// The record of what a call answered.
+impl From<Result<Answer, Refusal>> for AnswerRecord {
+    ghost from_gives = { λ answer told. told ≡ encoded answer };
+
+    fn from(answer: Result<Answer, Refusal>) -> AnswerRecord {
+        let blank = AnswerRecord::default();
+        match answer {
+            Ok(Answer::Released) => AnswerRecord {
+                kind: RELEASED,
+                ..blank
+            },
+            Ok(Answer::Closed) => AnswerRecord {
+                kind: CLOSED,
+                ..blank
+            },
+            Ok(Answer::Ticked(None, rang)) => AnswerRecord {
+                kind: TICKED,
+                rang: u32::from(rang),
+                ..blank
+            },
+            Ok(Answer::Ticked(Some(row), rang)) => AnswerRecord {
+                kind: TICKED,
+                // By `as`, since no `From` leads from usize to u64.
+                row: row as u64,
+                busy: 1,
+                rang: u32::from(rang),
+                ..blank
+            },
+            Ok(Answer::Reported(status)) => reported(status),
+            Err(why) => AnswerRecord {
+                kind: REFUSED,
+                number: why.record().number,
+                ..blank
+            },
+        }
     }
 }

@@ -9,7 +9,7 @@ ghost use mir.Syntax.{Dict};
 ghost use Rattle.alarm.specs.contracts.ramp.RampAlarm.TheImpl.{ghosts as ramp_over};
 ghost use Rattle.board_c.specs.Called.{Answered, Over, Called};
 
-use crate::codes::{decode, encode};
+use crate::codes::decode;
 use crate::record::AnswerRecord;
 use alarm::base::Alarm;
 use alarm::counter::Counter;
@@ -34,8 +34,8 @@ fn answer_all<T: Alarm + Drop>(plan: Plan, alarm: T, calls: &[u64], answers: &mu
     ensures { Answered T.Alarm plan alarm calls.now answers.old answers.new }
 {
     let mut board = Board::new(plan, alarm);
-    for i in 0..calls.len() {
-        answers[i] = encode(board.act(decode(calls[i])));
+    for (i, code) in calls.iter().enumerate() {
+        answers[i] = AnswerRecord::from(board.act(decode(*code)));
     }
 }
 

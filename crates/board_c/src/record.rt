@@ -2,7 +2,7 @@
 
 /// What is told of an answer. A field that its kind does not name is 0.
 #[repr(C)]
-#[derive(Clone, Copy)]
+#[derive(Clone, Copy, Default)]
 pub struct AnswerRecord {
     /// The clock, of a report.
     pub now: u64,

@@ -9,6 +9,7 @@ use board::replay::replay;
 use planner::plan::Plan;
 use refusal::cases::Refusal;
 use rules::calls::{Answer, Call, Status};
+use rules::slots::Job;
 use std::process::Abort;
 use std::test::Fail;
 
@@ -36,28 +37,16 @@ fn tick<T: Alarm>(
     who: Option<usize>,
     rang: bool,
 ) -> Result<(), Fail> {
-    let (ran, ring) = board.tick()?;
-    assert_eq!(rt; ran, who);
-    assert_eq!(rt; ring, rang);
+    assert_eq!(rt; board.tick()?, (who, rang));
     Ok(())
 }
 
 /// So many ticks in which nothing runs or rings.
 fn quiet<T: Alarm>(rt: &impl Abort, board: &mut Board<T>, ticks: u32) -> Result<(), Fail> {
-    for _i in 0..ticks {
+    for _ in 0..ticks {
         tick(rt, board, None, false)?;
     }
     Ok(())
-}
-
-fn refused(rt: &impl Abort, answer: Result<(), Refusal>, why: Refusal) -> Result<(), Fail> {
-    match answer {
-        Ok(()) => Err(Fail::new("accepted")),
-        Err(e) => {
-            assert_eq!(rt; e, why);
-            Ok(())
-        },
-    }
 }
 
 #[test]
@@ -99,7 +88,7 @@ fn the_lower_row_runs_first_in_a_tie(rt: HostRuntime) -> Result<(), Fail> {
 fn a_done_closes_the_only_job_and_the_board_sleeps(rt: HostRuntime) -> Result<(), Fail> {
     let mut board = Board::new(plan_of(PAIR)?, Counter::new());
     board.release(0)?;
-    refused(&rt, board.done(0), Refusal::NotBegun)?;
+    assert_eq!(rt; board.done(0), Err(Refusal::NotBegun));
     quiet(&rt, &mut board, 1)?;
     tick(&rt, &mut board, None, true)?;
     tick(&rt, &mut board, Some(0), false)?;
@@ -109,9 +98,7 @@ fn a_done_closes_the_only_job_and_the_board_sleeps(rt: HostRuntime) -> Result<()
             now: 3,
             ran: 1,
             slept: 2,
-            busy: true,
-            due: 6,
-            given: 1,
+            job: Some(Job { due: 6, given: 1 }),
         }
     );
     board.done(0)?;
@@ -121,14 +108,12 @@ fn a_done_closes_the_only_job_and_the_board_sleeps(rt: HostRuntime) -> Result<()
             now: 3,
             ran: 1,
             slept: 2,
-            busy: false,
-            due: 0,
-            given: 0,
+            job: None,
         }
     );
-    refused(&rt, board.done(0), Refusal::NoOpenJob)?;
+    assert_eq!(rt; board.done(0), Err(Refusal::NoOpenJob));
     quiet(&rt, &mut board, 5)?;
-    refused(&rt, board.release(0), Refusal::TooSoon)?;
+    assert_eq!(rt; board.release(0), Err(Refusal::TooSoon));
     quiet(&rt, &mut board, 1)?;
     board.release(0)?;
     assert_eq!(rt;
@@ -137,9 +122,7 @@ fn a_done_closes_the_only_job_and_the_board_sleeps(rt: HostRuntime) -> Result<()
             now: 9,
             ran: 1,
             slept: 8,
-            busy: true,
-            due: 15,
-            given: 0,
+            job: Some(Job { due: 15, given: 0 }),
         }
     );
     Ok(())
@@ -148,16 +131,11 @@ fn a_done_closes_the_only_job_and_the_board_sleeps(rt: HostRuntime) -> Result<()
 #[test]
 fn the_empty_plan_refuses_every_row(rt: HostRuntime) -> Result<(), Fail> {
     let mut board = Board::new(Plan::empty(), Counter::new());
-    refused(&rt, board.release(0), Refusal::NoSuchRow)?;
-    refused(&rt, board.done(0), Refusal::NoSuchRow)?;
+    assert_eq!(rt; board.release(0), Err(Refusal::NoSuchRow));
+    assert_eq!(rt; board.done(0), Err(Refusal::NoSuchRow));
     quiet(&rt, &mut board, 3)?;
-    match board.report(0) {
-        Ok(_) => Err(Fail::new("accepted")),
-        Err(e) => {
-            assert_eq!(rt; e, Refusal::NoSuchRow);
-            Ok(())
-        },
-    }
+    assert_eq!(rt; board.report(0), Err(Refusal::NoSuchRow));
+    Ok(())
 }
 
 #[test]
@@ -179,9 +157,7 @@ fn over_a_divider_a_short_sleep_wakes_at_once(rt: HostRuntime) -> Result<(), Fai
 
 #[test]
 fn over_a_ramp_the_warm_up_is_slept_through(rt: HostRuntime) -> Result<(), Fail> {
-    let Ok(ramp) = Ramp::new(Counter::new(), 10) else {
-        return Err(Fail::new("refused"));
-    };
+    let ramp = Ramp::new(Counter::new(), 10).map_err(|(_, refusal)| refusal)?;
     let mut board = Board::new(plan_of(LAMP)?, ramp);
     board.release(0)?;
     quiet(&rt, &mut board, 98)?;
@@ -193,9 +169,7 @@ fn over_a_ramp_the_warm_up_is_slept_through(rt: HostRuntime) -> Result<(), Fail>
             now: 100,
             ran: 1,
             slept: 99,
-            busy: false,
-            due: 0,
-            given: 0,
+            job: None,
         }
     );
     Ok(())
@@ -222,21 +196,19 @@ fn a_replay_says_what_each_call_answered(rt: HostRuntime) -> Result<(), Fail> {
     ];
     let answers = replay(rt.alloc(), plan_of(CUTTER)?, Counter::new(), &calls)?;
     assert!(rt; answers.len() == 6);
-    assert_eq!(rt; answers[0], Answer::Released);
-    assert_eq!(rt; answers[1], Answer::Ticked(None, false));
-    assert_eq!(rt; answers[2], Answer::Refused(Refusal::TooSoon));
-    assert_eq!(rt; answers[3], Answer::Refused(Refusal::NoSuchRow));
-    assert_eq!(rt; answers[4], Answer::Refused(Refusal::NoOpenJob));
+    assert_eq!(rt; answers[0], Ok(Answer::Released));
+    assert_eq!(rt; answers[1], Ok(Answer::Ticked(None, false)));
+    assert_eq!(rt; answers[2], Err(Refusal::TooSoon));
+    assert_eq!(rt; answers[3], Err(Refusal::NoSuchRow));
+    assert_eq!(rt; answers[4], Err(Refusal::NoOpenJob));
     assert_eq!(rt;
         answers[5],
-        Answer::Reported(Status {
+        Ok(Answer::Reported(Status {
             now: 1,
             ran: 0,
             slept: 1,
-            busy: true,
-            due: 56,
-            given: 0,
-        })
+            job: Some(Job { due: 56, given: 0 }),
+        }))
     );
     Ok(())
 }

@@ -1,7 +1,7 @@
 -- A sleeping board over an exact alarm has no choice: each call that fits has one step, the computed one. A release asks the
 -- alarm or leaves it, as the ticks left say, and an exact alarm has one wait to answer; a tick passes. So the runs with
 -- some calls are the computed one, and what is computed of its end is so of every end.
-use Rattle.std.proofs.Common.{◌≡◌, ℕ, ◌+◌, ◌<◌, ◌≤◌, min, Bool, true, false, cond, ◌&&◌, ltb, ◌⊎◌, List, [], ◌∷◌, Some, None, Option, sym, refl, ap, ◌∙◌, subst, inl, inr, arith}
+use Rattle.std.proofs.Common.{◌≡◌, ℕ, ◌+◌, ◌<◌, ◌≤◌, min, Bool, true, false, cond, ◌&&◌, ltb, ◌⊎◌, List, [], ◌∷◌, Some, None, Ok, Option, sym, refl, ap, ◌∙◌, subst, inl, inr, arith}
 use Rattle.std.proofs.lemmas.Bool.{and_parts, true≢false, false≢true, ltb-true, ltb-false, leb-true, eqb-true, not-true}
 use Rattle.refusal.specs.declared.cases.Refusal.TheVariants.{NoSuchRow, TooSoon}
 use Rattle.table.specs.declared.task.Task.{Task}
@@ -186,7 +186,7 @@ module _ (R : Rules) (fine : R.grain ≡ 1) where
 
     hushed_so : (call : Call) → fits R v call ≡ true → hushed v call ≡ true → Quiet call (answer_of (entry_for R v call))
     hushed_so (Release row) f h = refl
-    hushed_so Tick f h = ap (Ticked None) (not-true (rings v.alarm) h)
+    hushed_so Tick f h = ap (λ rang. Ok (Ticked None rang)) (not-true (rings v.alarm) h)
     hushed_so (Done row) f h = false≢true (and_parts (sleeping v.mode) false f).1
     hushed_so (Report row) f h = false≢true (and_parts (sleeping v.mode) false f).1
 

@@ -5,7 +5,8 @@
 --   fits         the board sleeps, and the call is a release or a tick that is accepted
 --   entry_for    what the log then has of the call
 --   view_after   what is then seen of the board; where `fits` says no, both mean nothing
-use Rattle.std.specs.Prelude.{◌≡◌, ℕ, ◌+◌, min, Bool, true, false, cond, not, ◌&&◌, List, [], ◌∷◌, Some, None, Option, ◌==◌, nat_le, nat_lt, slice_set}
+use Rattle.std.specs.Prelude.{◌≡◌, ℕ, ◌+◌, min, Bool, true, false, cond, not, ◌&&◌, List, [], ◌∷◌, Some, None, Ok, Option, Result, ◌==◌, nat_le, nat_lt, slice_set}
+use Rattle.refusal.specs.declared.cases.Refusal.{Refusal}
 use Rattle.alarm.specs.Meaning.{waiting, onward, rings}
 use Rattle.rules.specs.declared.slots.Mode.{Mode}
 use Rattle.rules.specs.declared.slots.Mode.TheVariants.{Asleep, Awake}
@@ -18,13 +19,14 @@ use Rattle.rules.specs.Plans.{limit}
 use Rattle.rules.specs.Steps.{Entry, Entry.released, Entry.done, Entry.ticked, mode_for, mode_after, Runs}
 use Rattle.rules.specs.Logs.{calls_of, answers_of}
 
-abbrev pub Quiet : Call → Answer → Type 0
-Quiet (Release row) answer = answer ≡ Released
-Quiet Tick answer = answer ≡ Ticked None false
+-- a release that is accepted, or a tick in which nothing runs or rings
+abbrev pub Quiet : Call → Result Answer Refusal → Type 0
+Quiet (Release row) answer = answer ≡ Ok Released
+Quiet Tick answer = answer ≡ Ok (Ticked None false)
 Quiet (Done row) answer = ⊥
 Quiet (Report row) answer = ⊥
 
-abbrev pub Quietly : List Call → List Answer → Type 0
+abbrev pub Quietly : List Call → List (Result Answer Refusal) → Type 0
 Quietly [] [] = Unit {0}
 Quietly [] (answer ∷ answers) = ⊥
 Quietly (call ∷ calls) [] = ⊥

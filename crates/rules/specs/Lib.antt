@@ -4,3 +4,4 @@ pub mod Logs
 pub mod Plans
 pub mod Promises
 pub mod Exact
+pub mod Printed

@@ -10,13 +10,14 @@
 --   Missed            a job was open when the clock reached its due tick
 --   calls_of          the calls that were made
 --   answers_of        what they answered
-use Rattle.std.specs.Prelude.{◌≡◌, ℕ, zero, suc, ◌+◌, ◌<◌, Bool, true, false, ◌⊎◌, List, [], ◌∷◌, ◌++◌, Some, None, Option, ◌==◌}
+use Rattle.std.specs.Prelude.{◌≡◌, ℕ, zero, suc, ◌+◌, ◌<◌, Bool, true, false, ◌⊎◌, List, [], ◌∷◌, ◌++◌, Some, None, Ok, Err, Option, Result, ◌==◌}
+use Rattle.refusal.specs.declared.cases.Refusal.{Refusal}
 use Rattle.table.specs.declared.task.Task.{Task}
 use Rattle.table.specs.Tasks.{task_at}
 use Rattle.rules.specs.declared.calls.Call.{Call}
 use Rattle.rules.specs.declared.calls.Call.TheVariants.{Release, Done, Tick, Report}
 use Rattle.rules.specs.declared.calls.Answer.{Answer}
-use Rattle.rules.specs.declared.calls.Answer.TheVariants.{Released, Closed, Ticked, Reported, Refused}
+use Rattle.rules.specs.declared.calls.Answer.TheVariants.{Released, Closed, Ticked, Reported}
 use Rattle.rules.specs.Steps.{Entry, Entry.released, Entry.done, Entry.ticked, Entry.reported, Entry.refused}
 
 abbrev pub one : Bool → ℕ
@@ -166,13 +167,13 @@ calls_of [] = []
 calls_of (e ∷ log) = call_of e ∷ calls_of log
 
 -- what the call answered: the wait is not seen
-abbrev pub answer_of : Entry → Answer
-answer_of (released row wait) = Released
-answer_of (done row) = Closed
-answer_of (ticked who rang) = Ticked who rang
-answer_of (reported row status) = Reported status
-answer_of (refused call why) = Refused why
+abbrev pub answer_of : Entry → Result Answer Refusal
+answer_of (released row wait) = Ok Released
+answer_of (done row) = Ok Closed
+answer_of (ticked who rang) = Ok (Ticked who rang)
+answer_of (reported row status) = Ok (Reported status)
+answer_of (refused call why) = Err why
 
-abbrev pub answers_of : List Entry → List Answer
+abbrev pub answers_of : List Entry → List (Result Answer Refusal)
 answers_of [] = []
 answers_of (e ∷ log) = answer_of e ∷ answers_of log

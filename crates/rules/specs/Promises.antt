@@ -5,7 +5,8 @@
 --   Promise     the three together, of one log
 --   Promised    whatever calls are made from a view on, in whatever order, their log keeps the promise
 --   Replayed    the answers are those of a run from a new board, whose log keeps the promise
-use Rattle.std.specs.Prelude.{◌≡◌, ℕ, ◌+◌, ◌<◌, ◌≤◌, min, ◌⊎◌, List, [], ◌∷◌, ◌++◌, length, Option}
+use Rattle.std.specs.Prelude.{◌≡◌, ℕ, ◌+◌, ◌<◌, ◌≤◌, min, ◌⊎◌, List, [], ◌∷◌, ◌++◌, length, Option, Result}
+use Rattle.refusal.specs.declared.cases.Refusal.{Refusal}
 use Rattle.table.specs.declared.task.Task.{Task}
 use Rattle.table.specs.Tasks.{task_at, AllWhole}
 use Rattle.rules.specs.declared.calls.Call.{Call}
@@ -74,7 +75,7 @@ pub record Promise (R : Rules) (log : List Entry) : Type 0 where
 abbrev pub Promised : Rules → View → Type 0
 Promised R v = (log : List Entry) (w : View) → Runs R v log w → Promise R log
 
-pub record Replayed (R : Rules) (calls : List Call) (answers : List Answer) : Type 0 where
+pub record Replayed (R : Rules) (calls : List Call) (answers : List (Result Answer Refusal)) : Type 0 where
   pub log : List Entry
   pub run : Logged R log
   pub made : calls_of log ≡ calls

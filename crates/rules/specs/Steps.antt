@@ -3,7 +3,7 @@
 --   Step    one call leads from a view to another
 --   Runs    the calls of a log, one after the other, lead from a view to another
 -- The alarm chooses its wait, within two bounds. The choice stands in the entry, so a run is fixed by its log.
-use Rattle.std.specs.Prelude.{◌≡◌, ℕ, ◌+◌, ◌<◌, ◌≤◌, min, Bool, true, false, cond, ◌⊎◌, List, [], ◌∷◌, Some, None, Option, ◌==◌, slice_set}
+use Rattle.std.specs.Prelude.{◌≡◌, ℕ, ◌+◌, ◌<◌, ◌≤◌, min, Bool, cond, ◌⊎◌, List, [], ◌∷◌, Some, None, Option, ◌==◌, slice_set}
 use Rattle.refusal.specs.declared.cases.Refusal.{Refusal}
 use Rattle.refusal.specs.declared.cases.Refusal.TheVariants.{NoSuchRow, TooSoon, ClockEnd, NoOpenJob, NotBegun}
 use Rattle.alarm.specs.Meaning.{waiting, onward, rings}
@@ -149,8 +149,7 @@ pub record Closes (R : Rules) (v : View) (row : ℕ) (w : View) : Type 0 where
 
 -- the status of a row with this open job, if any
 abbrev pub status_for : View → Option Job → Status
-status_for v None = record { now = v.now; ran = v.ran; slept = v.slept; busy = false; due = 0; given = 0 }
-status_for v (Some j) = record { now = v.now; ran = v.ran; slept = v.slept; busy = true; due = j.due; given = j.given }
+status_for v job = record { now = v.now; ran = v.ran; slept = v.slept; job = job }
 
 -- a report alters nothing
 pub record Reports (R : Rules) (v : View) (row : ℕ) (status : Status) (w : View) : Type 0 where

@@ -1,5 +1,5 @@
 //! The calls of a board, and what they answer.
-use refusal::cases::Refusal;
+use crate::slots::Job;
 
 /// A call, with the row that it names.
 #[derive(Clone, Copy, PartialEq, Eq, Debug)]
@@ -10,19 +10,16 @@ pub enum Call {
     Report(usize),
 }
 
-/// What a report answers: the clock, the ticks given to jobs, those spent asleep, and of the row whether a job is
-/// open, with its due tick and the ticks that it was given, both 0 without one.
+/// What a report answers: the clock, the ticks given to jobs, those spent asleep, and the row's open job, if any.
 #[derive(Clone, Copy, PartialEq, Eq, Debug)]
 pub struct Status {
     pub now: u64,
     pub ran: u64,
     pub slept: u64,
-    pub busy: bool,
-    pub due: u64,
-    pub given: u32,
+    pub job: Option<Job>,
 }
 
-/// What a call answers.
+/// What a call answers that is accepted. A refused one answers why, so a call answers a `Result` of the two.
 #[derive(Clone, Copy, PartialEq, Eq, Debug)]
 pub enum Answer {
     Released,
@@ -30,5 +27,4 @@ pub enum Answer {
     /// The row that ran, if any, and whether the alarm rang.
     Ticked(Option<usize>, bool),
     Reported(Status),
-    Refused(Refusal),
 }

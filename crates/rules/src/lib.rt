@@ -11,6 +11,7 @@ ghost use Rattle.rules.specs.Promises.{PromisesKept, GoesOn};
 ghost use Rattle.rules.specs.Exact.{OpenExact, BeginsAsleep, AsleepBegins, WakesExact, AwakeBusy, SomePlan};
 
 pub mod calls;
+mod display;
 pub mod slots;
 
 /// Every log of a board whose sleeps are as planned keeps the three promises.

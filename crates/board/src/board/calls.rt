@@ -1,9 +1,8 @@
 //! The four calls of a board, and the one place where they meet its mode.
 ghost use Rattle.std.specs.Prelude.{◌≡◌, OnErr};
-ghost use Rattle.refusal.specs.declared.cases.Refusal.{Refusal};
 ghost use Rattle.rules.specs.declared.slots.Mode.TheVariants.{Asleep};
 ghost use Rattle.rules.specs.declared.calls.Call.TheVariants.{Release, Done, Tick, Report};
-ghost use Rattle.rules.specs.declared.calls.Answer.TheVariants.{Released, Closed, Ticked, Reported, Refused};
+ghost use Rattle.rules.specs.declared.calls.Answer.TheVariants.{Released, Closed, Ticked, Reported};
 ghost use Rattle.board.specs.Boards.{rules_of, answer_for, Calmed, Does, Arms};
 ghost use Rattle.board.specs.Cores.{slots_of};
 
@@ -42,50 +41,41 @@ impl<T: Alarm> Board<T> {
     }
 
     /// What a call does depends on the call and on whether the board sleeps.
-    pub fn act(&mut self, call: Call) -> Answer
+    pub fn act(&mut self, call: Call) -> Result<Answer, Refusal>
         ensures does { Does T.Alarm self.old call result self.new }
-        ensures refused { (why : Refusal) → result ≡ Refused why → self.new ≡ self.old }
+        ensures refused { OnErr result (self.new ≡ self.old) }
     {
         match (call, self.core.mode()) {
-            (Call::Release(row), Mode::Asleep) => match self.core.open(row) {
-                Ok(sleep) => {
-                    self.arm(sleep);
-                    Answer::Released
-                }
-                Err(why) => Answer::Refused(why),
-            },
-            (Call::Release(row), Mode::Awake) => match self.core.open(row) {
-                Ok(_) => Answer::Released,
-                Err(why) => Answer::Refused(why),
-            },
+            (Call::Release(row), Mode::Asleep) => {
+                let sleep = self.core.open(row)?;
+                self.arm(sleep);
+                Ok(Answer::Released)
+            }
+            (Call::Release(row), Mode::Awake) => {
+                self.core.open(row)?;
+                Ok(Answer::Released)
+            }
             (Call::Tick, Mode::Asleep) => {
-                if self.core.is_over() {
-                    return Answer::Refused(Refusal::ClockEnd);
-                }
+                self.core.doze()?;
                 let rang = self.alarm.pass();
-                self.core.doze(rang);
-                Answer::Ticked(None, rang)
+                self.core.ring(rang);
+                Ok(Answer::Ticked(None, rang))
             }
             (Call::Tick, Mode::Awake) => {
-                if self.core.is_over() {
-                    return Answer::Refused(Refusal::ClockEnd);
-                }
+                let who = self.core.serve()?;
                 let rang = self.alarm.pass();
-                let who = self.core.serve();
                 self.calm();
-                Answer::Ticked(who, rang)
+                Ok(Answer::Ticked(who, rang))
             }
-            (Call::Done(row), _) => match self.core.close(row) {
-                Ok(()) => {
-                    self.calm();
-                    Answer::Closed
-                }
-                Err(why) => Answer::Refused(why),
-            },
-            (Call::Report(row), _) => match self.core.status(row) {
-                Ok(status) => Answer::Reported(status),
-                Err(why) => Answer::Refused(why),
-            },
+            (Call::Done(row), _) => {
+                self.core.close(row)?;
+                self.calm();
+                Ok(Answer::Closed)
+            }
+            (Call::Report(row), _) => {
+                let status = self.core.status(row)?;
+                Ok(Answer::Reported(status))
+            }
         }
     }
 
@@ -95,11 +85,7 @@ impl<T: Alarm> Board<T> {
         ensures does { Does T.Alarm self.old (Release row) (answer_for (λ _. Released) result) self.new }
         ensures refused { OnErr result (self.new ≡ self.old) }
     {
-        match self.act(Call::Release(row)) {
-            Answer::Released => Ok(()),
-            Answer::Refused(why) => Err(why),
-            _ => unreachable(),
-        }
+        self.act(Call::Release(row)).map(|_| ())
     }
 
     /// Closes the row's job early. With no job left open the board falls asleep, with its alarm unset.
@@ -107,11 +93,7 @@ impl<T: Alarm> Board<T> {
         ensures does { Does T.Alarm self.old (Done row) (answer_for (λ _. Closed) result) self.new }
         ensures refused { OnErr result (self.new ≡ self.old) }
     {
-        match self.act(Call::Done(row)) {
-            Answer::Closed => Ok(()),
-            Answer::Refused(why) => Err(why),
-            _ => unreachable(),
-        }
+        self.act(Call::Done(row)).map(|_| ())
     }
 
     /// Lets one tick go by. Awake, the job with the smallest due tick gets it, the lower row's in a tie; asleep, a ring
@@ -120,9 +102,8 @@ impl<T: Alarm> Board<T> {
         ensures does { Does T.Alarm self.old Tick (answer_for (λ p. Ticked p.0 p.1) result) self.new }
         ensures refused { OnErr result (self.new ≡ self.old) }
     {
-        match self.act(Call::Tick) {
+        match self.act(Call::Tick)? {
             Answer::Ticked(who, rang) => Ok((who, rang)),
-            Answer::Refused(why) => Err(why),
             _ => unreachable(),
         }
     }

@@ -1,23 +1,23 @@
 //! What each event does to the clock, the mode and the slots.
-ghost use Rattle.std.specs.Prelude.{◌≡◌, ℕ, ◌<◌, ◌≤◌, Some, MatchBool, MatchResult, OnErr};
-ghost use Rattle.rules.specs.declared.slots.Mode.TheVariants.{Awake};
-ghost use Rattle.rules.specs.declared.calls.Call.TheVariants.{Release, Done, Report};
+ghost use Rattle.std.specs.Prelude.{◌≡◌, ℕ, ◌<◌, ◌≤◌, Some, false, MatchBool, MatchResult, OnErr};
+ghost use Rattle.rules.specs.declared.slots.Mode.TheVariants.{Asleep, Awake};
+ghost use Rattle.rules.specs.declared.calls.Call.TheVariants.{Release, Done, Tick, Report};
+ghost use Rattle.refusal.specs.declared.cases.Refusal.TheVariants.{NoSuchRow};
 ghost use Rattle.table.specs.Tasks.{task_at};
 ghost use Rattle.planner.specs.Plans.{planned, sleeps_of};
 ghost use Rattle.planner.specs.Sleeps.{sleep_at};
 ghost use Rattle.rules.specs.Plans.{limit};
 ghost use Rattle.rules.specs.Views.{slot_at};
-ghost use Rattle.rules.specs.Steps.{Idle, Busy, Apart, Soon};
+ghost use Rattle.rules.specs.Steps.{Idle, Busy, Apart, Soon, mode_after};
 ghost use Rattle.board.specs.Cores.{rows, slots_of, New, Same, Tells, Refusing, Opens, Settled, Gives, Advances, Serves, Dozes, Shuts};
 ghost use Rattle.board.specs.Jobs.{Foremost};
 
 use crate::inner::{CLOCK_END, Core};
-use crate::jobs::Jobs;
+use crate::jobs::{Jobs, KnownRow};
 use planner::plan::Plan;
 use refusal::cases::Refusal;
 use rules::calls::Status;
 use rules::slots::{Job, Mode};
-use table::task::Task;
 
 /// Whether the job has had a tick.
 fn has_begun(job: Job) -> bool
@@ -48,11 +48,24 @@ impl Core {
         self.mode
     }
 
-    /// Whether the clock has reached its last tick.
-    pub(crate) fn is_over(&self) -> bool
-        ensures { MatchBool result (limit ≤ self.entry.now.now) (self.entry.now.now < limit) }
+    /// Refuses a tick once the clock has reached its last.
+    fn early(&self) -> Result<(), Refusal>
+        ensures { MatchResult result (λ _. self.entry.now.now < limit) (Refusing self.entry.now Tick) }
     {
-        self.now >= CLOCK_END
+        if self.now >= CLOCK_END {
+            return Err(Refusal::ClockEnd);
+        }
+        Ok(())
+    }
+
+    /// The row, which is refused unless the plan has it.
+    fn known(&self, row: usize) -> Result<KnownRow, Refusal>
+        ensures { MatchResult result (λ known. (known.row ≡ row) × (row < rows self.entry.now)) (λ why. (why ≡ NoSuchRow) × (rows self.entry.now ≤ row)) }
+    {
+        if row >= self.plan.count() {
+            return Err(Refusal::NoSuchRow);
+        }
+        Ok(KnownRow { row })
     }
 
     /// Wakes the board.
@@ -67,28 +80,13 @@ impl Core {
     pub(crate) fn status(&self, row: usize) -> Result<Status, Refusal>
         ensures { MatchResult result (Tells self.entry.now row) (Refusing self.entry.now (Report row)) }
     {
-        if row >= self.plan.count() {
-            return Err(Refusal::NoSuchRow);
-        }
-        let (now, ran, slept) = (self.now, self.ran, self.slept);
-        match self.jobs.slot(row).job {
-            None => Ok(Status {
-                now,
-                ran,
-                slept,
-                busy: false,
-                due: 0,
-                given: 0,
-            }),
-            Some(job) => Ok(Status {
-                now,
-                ran,
-                slept,
-                busy: true,
-                due: job.due,
-                given: job.given,
-            }),
-        }
+        let job = self.jobs.slot(self.known(row)?).job;
+        Ok(Status {
+            now: self.now,
+            ran: self.ran,
+            slept: self.slept,
+            job,
+        })
     }
 
     /// Whether no job is open.
@@ -108,36 +106,13 @@ impl Core {
         }
     }
 
-    /// The task of a row that the plan has.
-    fn task(&self, row: usize) -> Task
-        requires { row < rows self.now }
-        ensures { result ≡ task_at (planned self.entry.now.plan) row }
-    {
-        match self.plan.task(row) {
-            Some(task) => task,
-            None => unreachable(),
-        }
-    }
-
-    /// Its sleep.
-    fn sleep(&self, row: usize) -> u32
-        requires { row < rows self.now }
-        ensures { result ≡ sleep_at (sleeps_of self.entry.now.plan) row }
-    {
-        match self.plan.sleep(row) {
-            Some(sleep) => sleep,
-            None => unreachable(),
-        }
-    }
-
     /// Whether the row's gap is over since its last release.
-    fn is_apart(&self, row: usize, gap: u32) -> bool
-        requires { row < 64 }
-        ensures { MatchBool result (Apart (slot_at self.entry.now.jobs.slots row).last gap self.entry.now.now) (Soon (slot_at self.entry.now.jobs.slots row).last gap self.entry.now.now) }
+    fn is_apart(&self, known: KnownRow, gap: u32) -> bool
+        ensures { MatchBool result (Apart (slot_at self.entry.now.jobs.slots known.row).last gap self.entry.now.now) (Soon (slot_at self.entry.now.jobs.slots known.row).last gap self.entry.now.now) }
     {
-        match self.jobs.slot(row).last {
+        match self.jobs.slot(known).last {
             None => true,
-            Some(last) => gap as u64 <= self.now - last,
+            Some(last) => u64::from(gap) <= self.now - last,
         }
     }
 
@@ -146,15 +121,14 @@ impl Core {
         ensures answer { MatchResult result (λ sleep. Opens self.entry.now row sleep self.exit.now) (Refusing self.entry.now (Release row)) }
         ensures refused { OnErr result (self.exit.now ≡ self.entry.now) }
     {
-        if row >= self.plan.count() {
-            return Err(Refusal::NoSuchRow);
-        }
-        let task = self.task(row);
-        let sleep = self.sleep(row);
-        if !self.is_apart(row, task.gap) {
+        let known = self.known(row)?;
+        let task = self.plan.task(row).unwrap();
+        let sleep = self.plan.sleep(row).unwrap();
+        if !self.is_apart(known, task.gap) {
             return Err(Refusal::TooSoon);
         }
-        self.jobs.open(row, self.now, self.now + task.due as u64);
+        self.jobs
+            .open(known, self.now, self.now + u64::from(task.due));
         Ok(sleep)
     }
 
@@ -163,20 +137,14 @@ impl Core {
         ensures answer { MatchResult result (λ _. Shuts self.entry.now row self.exit.now) (Refusing self.entry.now (Done row)) }
         ensures refused { OnErr result (self.exit.now ≡ self.entry.now) }
     {
-        if row >= self.plan.count() {
-            return Err(Refusal::NoSuchRow);
+        let known = self.known(row)?;
+        let job = self.jobs.slot(known).job.ok_or(Refusal::NoOpenJob)?;
+        if !has_begun(job) {
+            return Err(Refusal::NotBegun);
         }
-        match self.jobs.slot(row).job {
-            None => Err(Refusal::NoOpenJob),
-            Some(job) => {
-                if !has_begun(job) {
-                    return Err(Refusal::NotBegun);
-                }
-                self.jobs.close(row);
-                self.settle();
-                Ok(())
-            }
-        }
+        self.jobs.close(known);
+        self.settle();
+        Ok(())
     }
 
     /// Gives one tick to the row, whose job comes first.
@@ -186,33 +154,44 @@ impl Core {
         ensures gives { Gives (Some row) self.entry.now self.exit.now }
         ensures advances { Advances self.entry.now self.exit.now }
     {
-        let task = self.task(row);
+        let task = self.plan.task(row).unwrap();
         self.now += 1;
         self.ran += 1;
-        self.jobs.feed(row, task.run);
+        self.jobs.feed(KnownRow { row }, task.run);
     }
 
     /// One tick awake: the job that comes first gets it.
-    pub(crate) fn serve(&mut self) -> Option<usize>
-        requires { self.now.now < limit }
-        ensures { Serves self.entry.now result self.exit.now }
+    pub(crate) fn serve(&mut self) -> Result<Option<usize>, Refusal>
+        ensures answer { MatchResult result (λ who. Serves self.entry.now who self.exit.now) (Refusing self.entry.now Tick) }
+        ensures refused { OnErr result (self.exit.now ≡ self.entry.now) }
     {
+        self.early()?;
         let first = self.jobs.first();
         match first {
             Some(row) => self.feed(row),
             None => self.now += 1,
         }
         self.settle();
-        first
+        Ok(first)
     }
 
-    /// One tick asleep, after which a ring wakes the board.
-    pub(crate) fn doze(&mut self, rang: bool)
-        requires { self.now.now < limit }
-        ensures { Dozes self.entry.now rang self.exit.now }
+    /// One tick asleep.
+    pub(crate) fn doze(&mut self) -> Result<(), Refusal>
+        requires { self.now.mode ≡ Asleep }
+        ensures answer { MatchResult result (λ _. Dozes self.entry.now false self.exit.now) (Refusing self.entry.now Tick) }
+        ensures refused { OnErr result (self.exit.now ≡ self.entry.now) }
     {
+        self.early()?;
         self.now += 1;
         self.slept += 1;
+        Ok(())
+    }
+
+    /// After a tick asleep, a ring wakes the board.
+    pub(crate) fn ring(&mut self, rang: bool)
+        ensures same { Same self.entry.now self.exit.now }
+        ensures mode { self.exit.now.mode ≡ mode_after rang }
+    {
         self.mode = if rang { Mode::Awake } else { Mode::Asleep };
     }
 }

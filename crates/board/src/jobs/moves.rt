@@ -5,7 +5,7 @@ ghost use Rattle.rules.specs.Steps.{Idle, Busy};
 ghost use Rattle.rules.specs.Views.{empty, slot_at, job_at, opened, closed, fed};
 ghost use Rattle.board.specs.Jobs.{Foremost, Working};
 
-use crate::jobs::Jobs;
+use crate::jobs::{Jobs, KnownRow};
 use crate::turn::Turn;
 use queue::{peek, push, remove};
 use rules::slots::{Job, Slot};
@@ -29,11 +29,10 @@ impl Jobs {
     }
 
     /// The slot of a row.
-    pub(crate) fn slot(&self, row: usize) -> Slot
-        requires { row < 64 }
-        ensures { result ≡ slot_at self.now.slots row }
+    pub(crate) fn slot(&self, known: KnownRow) -> Slot
+        ensures { result ≡ slot_at self.now.slots known.row }
     {
-        self.slots[row]
+        self.slots[known.row]
     }
 
     /// Whether no job is open.
@@ -47,22 +46,16 @@ impl Jobs {
     pub(crate) fn first(&self) -> Option<usize>
         ensures { Foremost self.now.slots result }
     {
-        match peek(&self.turns, self.held) {
-            Some(turn) => Some(turn.row),
-            None => None,
-        }
+        peek(&self.turns, self.held).map(|turn| turn.row)
     }
 
     /// Opens a job of the row, which has none, due by the tick `due`.
-    fn enter(&mut self, row: usize, at: u64, due: u64)
-        requires in_range { row < 64 }
-        requires no_job { job_at self.old.slots row ≡ None }
-        ensures { self.new.slots ≡ slice_set self.old.slots row (opened at due) }
+    fn enter(&mut self, known: KnownRow, at: u64, due: u64)
+        requires { job_at self.old.slots known.row ≡ None }
+        ensures { self.new.slots ≡ slice_set self.old.slots known.row (opened at due) }
     {
-        match push(&mut self.turns, self.held, Turn { due, row }) {
-            Ok(held) => self.held = held,
-            Err(_) => return unreachable(),
-        }
+        let row = known.row;
+        self.held = push(&mut self.turns, self.held, Turn { due, row }).unwrap();
         self.slots[row] = Slot {
             last: Some(at),
             job: Some(Job { due, given: 0 }),
@@ -70,55 +63,41 @@ impl Jobs {
     }
 
     /// Closes the row's job, which leaves the queue wherever it stands there.
-    pub(crate) fn close(&mut self, row: usize)
-        requires in_range { row < 64 }
-        requires working { Working self.old.slots row }
-        ensures { self.new.slots ≡ slice_set self.old.slots row (closed (slot_at self.old.slots row)) }
+    pub(crate) fn close(&mut self, known: KnownRow)
+        requires { Working self.old.slots known.row }
+        ensures { self.new.slots ≡ slice_set self.old.slots known.row (closed (slot_at self.old.slots known.row)) }
     {
+        let row = known.row;
         let slot = self.slots[row];
-        let Some(job) = slot.job else {
-            return unreachable();
-        };
-        match remove(&mut self.turns, self.held, Turn { due: job.due, row }) {
-            Some(held) => self.held = held,
-            None => return unreachable(),
-        }
-        self.slots[row] = Slot {
-            last: slot.last,
-            job: None,
-        };
+        let due = slot.job.unwrap().due;
+        self.held = remove(&mut self.turns, self.held, Turn { due, row }).unwrap();
+        self.slots[row] = Slot { job: None, ..slot };
     }
 
     /// Opens a job of the row. One that is still open there gives way.
-    pub(crate) fn open(&mut self, row: usize, at: u64, due: u64)
-        requires { row < 64 }
-        ensures { self.new.slots ≡ slice_set self.old.slots row (opened at due) }
+    pub(crate) fn open(&mut self, known: KnownRow, at: u64, due: u64)
+        ensures { self.new.slots ≡ slice_set self.old.slots known.row (opened at due) }
     {
-        if let Some(_) = self.slots[row].job {
-            self.close(row);
+        if self.slot(known).job.is_some() {
+            self.close(known);
         }
-        self.enter(row, at, due);
+        self.enter(known, at, due);
     }
 
     /// Gives the row's job a tick; it closes when it has had its run.
-    pub(crate) fn feed(&mut self, row: usize, run: u32)
-        requires in_range { row < 64 }
-        requires working { Working self.old.slots row }
-        ensures { (j : Job) → job_at self.old.slots row ≡ Some j → self.new.slots ≡ slice_set self.old.slots row (fed run (slot_at self.old.slots row) j) }
+    pub(crate) fn feed(&mut self, known: KnownRow, run: u32)
+        requires { Working self.old.slots known.row }
+        ensures { (j : Job) → job_at self.old.slots known.row ≡ Some j → self.new.slots ≡ slice_set self.old.slots known.row (fed run (slot_at self.old.slots known.row) j) }
     {
-        let slot = self.slots[row];
-        let Some(job) = slot.job else {
-            return unreachable();
-        };
-        if run as u64 <= job.given as u64 + 1 {
-            self.close(row);
+        let slot = self.slots[known.row];
+        let job = slot.job.unwrap();
+        if u64::from(run) <= u64::from(job.given) + 1 {
+            self.close(known);
         } else {
-            self.slots[row] = Slot {
-                last: slot.last,
-                job: Some(Job {
-                    due: job.due,
-                    given: job.given + 1,
-                }),
+            let given = job.given + 1;
+            self.slots[known.row] = Slot {
+                job: Some(Job { given, ..job }),
+                ..slot
             };
         }
     }

@@ -1,16 +1,13 @@
 -- Each call adds a step, and its record to the answers.
 use Rattle.std.proofs.Common.{length}
-use Rattle.board_c.proofs.Writing.{within, at_end, answering_none, answering_more, answered}
+use Rattle.board_c.proofs.Writing.{within, at_end, answering_more, answered}
 use Rattle.board_c.proofs.answer_all.Goals as goal
-
-pub loop-i-init : goal.loop-i-init
-loop-i-init g c = answering_none g.T.Alarm c.new-board.result c.args.calls.now c.args.answers.now
 
 pub loop-i-preserved : goal.loop-i-preserved
 loop-i-preserved g c =
-    answering_more g.T.Alarm c.new-board.result c.loop-i.board c.act.new.self c.loop-i.i c.args.calls.now c.args.answers.now c.loop-i.answers c.decode.result c.act.result c.encode.result
+    answering_more g.T.Alarm c.new-board.result c.loop-i.board c.act.new.self c.loop-i.i c.args.calls.now c.args.answers.now c.loop-i.answers c.decode.result c.act.result c.from.result
     c.loop-i-test.true (within c.loop-i.i (length c.args.calls.now) (length c.args.answers.now) (length c.loop-i.answers) c.loop-i-test.true c.requires c.loop-i.auto.answers)
-    c.loop-i.invariant c.decode.ensures c.act.ensures.does c.encode.ensures
+    c.loop-i.invariant c.decode.ensures c.act.ensures.does c.from.ensures
 
 pub returns : goal.returns
 returns g c =

@@ -1,5 +1,6 @@
 -- The two steps are a run from the new board, by the same rules.
-use Rattle.std.proofs.Common.{◌≡◌, List, [], ◌∷◌, refl, subst, rules}
+use Rattle.std.proofs.Common.{◌≡◌, List, [], ◌∷◌, Result, refl, subst, rules}
+use Rattle.refusal.specs.declared.cases.Refusal.{Refusal}
 use Rattle.alarm.specs.declared.base.Alarm.{Ghosts}
 use Rattle.rules.specs.declared.calls.Call.{Call}
 use Rattle.rules.specs.declared.calls.Call.TheVariants.{Release, Tick}
@@ -20,7 +21,7 @@ record Kept (R : Rules) (a b : Call) : Type 0 where
   promise : Promise R log
 
 module _ {X : Type 0} (alarm : Ghosts X) where
-  two_steps : (R : Rules) (u : Board X) → rules_of alarm u ≡ R → Promised (rules_of alarm u) (view_of alarm u) → (a b : Call) (x y : Answer) (v w : Board X)
+  two_steps : (R : Rules) (u : Board X) → rules_of alarm u ≡ R → Promised (rules_of alarm u) (view_of alarm u) → (a b : Call) (x y : Result Answer Refusal) (v w : Board X)
       → Does alarm u a x v → Does alarm v b y w → Kept R a b
   two_steps R u p promise a b x y v w first second =
       let d = first.entry in

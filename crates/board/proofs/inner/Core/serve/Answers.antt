@@ -1,22 +1,11 @@
 -- With no job open only the clock moves on.
-use Rattle.std.proofs.Common.{Some, refl, ◌∙◌, arith}
-use Rattle.board.proofs.Keeping.{past_more, serves_by, serves_none}
+use Rattle.std.proofs.Common.{Some, refl, ◌∙◌}
+use Rattle.board.proofs.Keeping.{serves_by, serves_none}
 use Rattle.board.proofs.inner.Core.serve.Goals as goal
 use Rattle.board.proofs.inner.Core.serve.Goals.{in-Some, in-None}
 
-pub invariant_of-self : goal.invariant_of-self
-invariant_of-self c =
-    let s = c.args.self.now in
-    record {
-      clock = omega arith;
-      given = omega arith;
-      rest = omega arith;
-      past = past_more s.now s.jobs.slots s.past;
-      listed = s.listed;
-    }
-
-pub returns : goal.returns
-returns c =
+pub returns-clause-answer : goal.returns-clause-answer
+returns-clause-answer c =
     elim c.match-first.branch [
       | in-Some w ↦ serves_by _ (Some w.in-Some.row) c.args.self.now c.match-first.self _ c.settle.new.self w.first-is w.self-is
           w.feed.ensures.gives w.feed.ensures.advances c.settle.ensures.same c.settle.ensures.settled
