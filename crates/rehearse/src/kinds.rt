@@ -15,56 +15,47 @@ use rules::calls::Call;
 const NO_ALARM: &str =
     "no such alarm: counter, divider, ramp:W:counter, ramp:W:divider, top-up:counter or top-up:divider";
 
-/// Makes the calls on a board over the alarm, and prints them.
-fn over<T: Alarm + Drop>(
-    rt: &HostRuntime,
-    plan: Plan,
-    alarm: T,
-    calls: &[Call],
-) -> anyhow::Result<()> {
-    let answers = replay(rt.alloc(), plan, alarm, calls)?;
-    show_log(rt, calls, answers.as_slice())
+/// The calls that are made on a board over the plan, whatever its alarm.
+#[derive(Drop)]
+pub(crate) struct Rehearsal<'a> {
+    pub(crate) rt: &'a HostRuntime,
+    pub(crate) plan: Plan,
+    pub(crate) calls: Vec<Call>,
 }
 
-/// The same over a ramp with this warm-up.
-fn over_ramp<T: Alarm + Drop>(
-    rt: &HostRuntime,
-    plan: Plan,
-    below: T,
-    warm: &str,
-    calls: &[Call],
-) -> anyhow::Result<()> {
-    let warm = warm.parse::<u32>()?;
-    match Ramp::new(below, warm) {
-        Ok(ramp) => over(rt, plan, ramp, calls),
-        Err(back) => {
-            let (_, refusal) = back;
-            rt.eprintln(Sentence(refusal))?;
-            Err(anyhow!("the ramp is refused"))
+impl<'a> Rehearsal<'a> {
+    /// Makes the calls over the alarm that is named so.
+    pub(crate) fn run(&self, kind: &str) -> anyhow::Result<()> {
+        match kind {
+            "counter" => self.over(Counter::new()),
+            "divider" => self.over(Divider::new()),
+            "top-up:counter" => self.over(TopUp::new(Counter::new())),
+            "top-up:divider" => self.over(TopUp::new(Divider::new())),
+            _ => match kind
+                .strip_prefix("ramp:")
+                .and_then(|ramp| ramp.split_once(':'))
+            {
+                Some((warm, "counter")) => self.over_ramp(Counter::new(), warm),
+                Some((warm, "divider")) => self.over_ramp(Divider::new(), warm),
+                _ => Err(anyhow!(NO_ALARM)),
+            },
         }
     }
-}
 
-/// Makes the calls over the alarm that is named so.
-pub(crate) fn rehearse(
-    rt: &HostRuntime,
-    kind: &str,
-    plan: Plan,
-    calls: &[Call],
-) -> anyhow::Result<()> {
-    match kind {
-        "counter" => over(rt, plan, Counter::new(), calls),
-        "divider" => over(rt, plan, Divider::new(), calls),
-        "top-up:counter" => over(rt, plan, TopUp::new(Counter::new()), calls),
-        "top-up:divider" => over(rt, plan, TopUp::new(Divider::new()), calls),
-        _ => {
-            let Some(ramp) = kind.strip_prefix("ramp:") else {
-                return Err(anyhow!(NO_ALARM));
-            };
-            match ramp.split_once(':') {
-                Some((warm, "counter")) => over_ramp(rt, plan, Counter::new(), warm, calls),
-                Some((warm, "divider")) => over_ramp(rt, plan, Divider::new(), warm, calls),
-                _ => Err(anyhow!(NO_ALARM)),
+    /// Makes the calls on a board over the alarm, and prints them.
+    fn over<T: Alarm + Drop>(&self, alarm: T) -> anyhow::Result<()> {
+        let answers = replay(self.rt.alloc(), self.plan, alarm, &self.calls)?;
+        show_log(self.rt, &self.calls, &answers)
+    }
+
+    /// The same over a ramp with this warm-up.
+    fn over_ramp<T: Alarm + Drop>(&self, below: T, warm: &str) -> anyhow::Result<()> {
+        let warm = warm.parse::<u32>()?;
+        match Ramp::new(below, warm) {
+            Ok(ramp) => self.over(ramp),
+            Err((_, refusal)) => {
+                self.rt.eprintln(Sentence(refusal))?;
+                Err(anyhow!("the ramp is refused"))
             }
         }
     }

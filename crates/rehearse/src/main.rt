@@ -8,33 +8,34 @@ mod kinds;
 mod script;
 mod show;
 
-use anyhow::anyhow;
+use crate::kinds::Rehearsal;
+use anyhow::{Context, anyhow};
 use planner::plan::Plan;
 use refusal::explain::Sentence;
 use std::{env, fs};
 
 fn run(rt: &HostRuntime) -> anyhow::Result<()> {
-    let mut words = env::args(rt)?;
-    let _ = words.next();
-    let Some(kind) = words.next() else {
-        return Err(anyhow!("which alarm? rehearse ALARM TABLE CALLS"));
-    };
-    let Some(table) = words.next() else {
-        return Err(anyhow!("which table? rehearse ALARM TABLE CALLS"));
-    };
-    let Some(calls) = words.next() else {
-        return Err(anyhow!("which calls? rehearse ALARM TABLE CALLS"));
-    };
+    let mut words = env::args(rt)?.skip(1);
+    let kind = words
+        .next()
+        .context("which alarm? rehearse ALARM TABLE CALLS")?;
+    let table = words
+        .next()
+        .context("which table? rehearse ALARM TABLE CALLS")?;
+    let calls = words
+        .next()
+        .context("which calls? rehearse ALARM TABLE CALLS")?;
     let text = fs::read(rt, table.as_str())?;
     let mut plan = Plan::empty();
-    if let Err(refusal) = plan.fill(text.as_slice()) {
+    if let Err(refusal) = plan.fill(&text) {
         rt.println(refusal)?;
         rt.eprintln(Sentence(refusal))?;
         return Err(anyhow!("the table is refused"));
     }
     let lines = fs::read_to_string(rt, calls.as_str())?;
-    let calls = script::read_calls(rt, text.as_slice(), lines.as_str())?;
-    kinds::rehearse(rt, kind.as_str(), plan, calls.as_slice())
+    let calls = script::read_calls(rt, &text, &lines)?;
+    let rehearsal = Rehearsal { rt, plan, calls };
+    rehearsal.run(&kind)
 }
 
 fn main(rt: HostRuntime) -> anyhow::Result<()> {

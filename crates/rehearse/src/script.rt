@@ -12,17 +12,9 @@ const MOST_TICKS: u32 = 1_000_000;
 
 /// The row with this name or number.
 fn row_of(text: &[u8], word: &str) -> Option<usize> {
-    for row in 0..MOST_ROWS {
-        if let Some(name) = name_of(text, row) {
-            if name == word.as_bytes() {
-                return Some(row);
-            }
-        }
-    }
-    match word.parse::<usize>() {
-        Ok(row) => Some(row),
-        Err(_) => None,
-    }
+    (0..MOST_ROWS)
+        .find(|row| name_of(text, *row) == Some(word.as_bytes()))
+        .or_else(|| word.parse::<usize>().ok())
 }
 
 /// The call of this name on a row.
@@ -36,11 +28,8 @@ fn call_on(name: &str, row: usize) -> Option<Call> {
 }
 
 /// So many ticks, at most as many as one line may make.
-fn ticks_in(word: &str) -> Option<(Call, u32)> {
-    match word.parse::<u32>() {
-        Ok(ticks) => Some((Call::Tick, ticks.min(MOST_TICKS))),
-        Err(_) => None,
-    }
+fn ticks_in(word: &str) -> Option<u32> {
+    Some(word.parse::<u32>().ok()?.min(MOST_TICKS))
 }
 
 /// The call of a line and how often it is made, if the line is one.
@@ -48,17 +37,13 @@ fn call_in(text: &[u8], line: &str) -> Option<(Call, u32)> {
     let mut words = line.split_whitespace();
     let first = words.next()?;
     let second = words.next();
-    if let Some(_) = words.next() {
+    if words.next().is_some() {
         return None;
     }
     match (first, second) {
         ("tick", None) => Some((Call::Tick, 1)),
-        ("tick", Some(word)) => ticks_in(word),
-        (name, Some(word)) => {
-            let row = row_of(text, word)?;
-            let call = call_on(name, row)?;
-            Some((call, 1))
-        }
+        ("tick", Some(word)) => Some((Call::Tick, ticks_in(word)?)),
+        (name, Some(word)) => Some((call_on(name, row_of(text, word)?)?, 1)),
         (_, None) => None,
     }
 }
