@@ -14,15 +14,15 @@ use board::board::Board;
 use refusal::cases::Refusal;
 use std::io;
 
-/// The ticks up to the next ring, 0 if none comes within 100.
-fn ticks_to_ring<T: Alarm>(board: &mut Board<T>) -> Result<u32, Refusal> {
-    for passed in 1..101_u32 {
+/// The ticks up to the next ring, if one comes within 100.
+fn ticks_to_ring<T: Alarm>(board: &mut Board<T>) -> Result<Option<u32>, Refusal> {
+    for passed in 1..=100_u32 {
         let (_, rang) = board.tick()?;
         if rang {
-            return Ok(passed);
+            return Ok(Some(passed));
         }
     }
-    Ok(0)
+    Ok(None)
 }
 
 fn main(rt: HostRuntime) -> io::Result<()> {
@@ -30,10 +30,10 @@ fn main(rt: HostRuntime) -> io::Result<()> {
     println!(rt; "{count} figures hold by the rules")?;
     let ticks = premises_met();
     println!(rt; "a sleep of {ticks} ticks meets the premises")?;
-    if let Ok(ticks) = ticks_to_ring(&mut fan_released()) {
+    if let Ok(Some(ticks)) = ticks_to_ring(&mut fan_released()) {
         println!(rt; "fan released at 0: rings after {ticks} ticks")?;
     }
-    if let Ok(ticks) = ticks_to_ring(&mut head_released()) {
+    if let Ok(Some(ticks)) = ticks_to_ring(&mut head_released()) {
         println!(rt; "and head at 1: rings {ticks} ticks later")?;
     }
     Ok(())
