@@ -8,7 +8,7 @@ use Rattle.table.specs.declared.task.Task.{Task}
 use Rattle.table.specs.Tasks.{task_at}
 use Rattle.planner.specs.Plans.{planned, sleeps_of}
 use Rattle.planner.specs.Sleeps.{sleep_at}
-use Rattle.planner.proofs.Plans.{tasks_count}
+use Rattle.planner.proofs.Plans.{few}
 use Rattle.rules.specs.Views.{empty, slot_at, job_at, opened, closed, fed}
 use Rattle.rules.specs.Steps.{Idle, Busy, Apart, mode_after}
 use Rattle.rules.proofs.Cells.{all_set, none_some, slot_fresh, fed_last}
@@ -54,7 +54,7 @@ front_fresh n slots l e = ap (take n) e ∙ take-replicate n 64 empty l
 
 -- the row of a plan has a place in the array
 row_fits : (c : Core) (row : ℕ) → row < rows c → row < length c.jobs.slots
-row_fits c row l = omega (arith, tasks_count c.plan)
+row_fits c row l = omega (arith, few c.plan)
 
 -- a write to the slot of one row, at the tick now or later
 module _ (c : Core) (slots : List Slot) (row : ℕ) (s : Slot) (l : row < rows c) (e : slots ≡ set c.jobs.slots row s) where

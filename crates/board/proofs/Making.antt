@@ -5,8 +5,8 @@ use Rattle.table.specs.Tasks.{task_at}
 use Rattle.planner.specs.declared.plan.Plan.{Plan}
 use Rattle.planner.specs.Demand.{need}
 use Rattle.planner.specs.Sleeps.{sleep_at}
-use Rattle.planner.specs.Plans.{planned, sleeps_of}
-use Rattle.planner.proofs.Plans.{tasks_count, sleeps_count, plan_met}
+use Rattle.planner.specs.Plans.{planned, sleeps_of, period_of}
+use Rattle.planner.proofs.Plans.{sleeps_count, plan_met}
 use Rattle.refusal.specs.declared.cases.Refusal.{Refusal}
 use Rattle.rules.specs.declared.calls.Call.{Call}
 use Rattle.rules.specs.declared.calls.Answer.{Answer}
@@ -30,8 +30,8 @@ soon_enough t due gap h a b c d = omega arith
 pub plan_planned : (p : Plan) → Planned (planned p) (sleeps_of p)
 plan_planned p =
     record {
-      size = sleeps_count p ∙ sym (tasks_count p);
-      whole = p.whole;
+      size = sleeps_count p;
+      whole = p.rows.whole;
       rested = p.rested;
       met = met;
     }
@@ -40,7 +40,7 @@ plan_planned p =
         → (t : ℕ) × ((task_at (planned p) row).due ≤ t) × (t ≤ limit) × (sleep_at (sleeps_of p) row + need (planned p) t ≡ t)
     met row l =
         let m = plan_met p row l in
-        (m.0, m.1, soon_enough m.0 (task_at (planned p) row).due (task_at (planned p) row).gap p.common m.2 (p.whole row l).2 (p.bounded row l) p.short, m.3)
+        (m.0, m.1, soon_enough m.0 (task_at (planned p) row).due (task_at (planned p) row).gap (period_of p) m.2 (p.rows.whole row l).2 (p.rows.bounded row l) p.rows.short, m.3)
 
 pub new_view : (p : Plan) (c : Core) (a : Option ℕ) → New p c → a ≡ None → view c a ≡ fresh (length (planned p))
 new_view p c a n e =

@@ -17,7 +17,7 @@ use Rattle.planner.specs.Verdict.{Made}
 use Rattle.planner.proofs.Shortest.{shortest_computed, shortest_absent}
 use Rattle.planner.proofs.Witness.{found_again}
 
-few : (plan : Plan) → length (planned plan) ≤ 64
+pub few : (plan : Plan) → length (planned plan) ≤ 64
 few plan = let rows = plan.rows in omega (arith, length-take-le rows.count rows.list (omega (arith, rows.within, rows.size)), rows.within)
 
 pub sleeps_count : (plan : Plan) → length (sleeps_of plan) ≡ length (planned plan)

@@ -1,7 +1,7 @@
 -- No row was released yet.
 use Rattle.std.proofs.Common.{length, refl, arith}
 use Rattle.planner.specs.Plans.{planned}
-use Rattle.planner.proofs.Plans.{tasks_count}
+use Rattle.planner.proofs.Plans.{few}
 use Rattle.board.proofs.Keeping.{past_fresh, below_fresh, front_fresh}
 use Rattle.board.proofs.inner.Core.new.Goals as goal
 
@@ -24,5 +24,5 @@ returns c =
       ran = refl;
       slept = refl;
       mode = refl;
-      slots = front_fresh (length (planned p)) c.new.result.slots (omega (arith, tasks_count p)) c.new.ensures;
+      slots = front_fresh (length (planned p)) c.new.result.slots (omega (arith, few p)) c.new.ensures;
     }
