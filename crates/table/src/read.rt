@@ -70,7 +70,7 @@ fn next_row<'a>(
 pub fn read(text: &[u8]) -> Result<Table, Refusal>
     ensures { Reads text.now result }
 {
-    if text.len() < 1 || text.len() > MOST_BYTES {
+    if text.is_empty() || text.len() > MOST_BYTES {
         return Err(Refusal::TextLength);
     }
     let (count, first_row) = Cursor::new(text)
@@ -89,7 +89,7 @@ pub fn read(text: &[u8]) -> Result<Table, Refusal>
         names.push(name);
         at = next;
     }
-    if at.rest.len() > 0 {
+    if !at.rest.is_empty() {
         return Err(Refusal::TextAfter(Position {
             line: rows + 2,
             place: at.place,

@@ -1,4 +1,5 @@
-use Rattle.std.proofs.Common.{rules, ◌≡◌, ◌+◌, ◌-◌, [], length, Ok, Err, sym, ap, ◌∙◌, ⊎_elim, zero-add}
+use Rattle.std.proofs.Common.{rules, ◌≡◌, ◌≤◌, ◌+◌, ◌-◌, [], length, Ok, Err, sym, ap, ◌∙◌, ⊎_elim, zero-add, ℕ, Bool, true, false, List, ◌==◌, eqb-true, arith}
+use borrow.Author.Tests.{eqb-false}
 use Rattle.std.proofs.lemmas.Result.{err_from_is_err_and}
 use Rattle.refusal.specs.declared.cases.Refusal.TheVariants.{TextLength, LineForm, RowCount, TextAfter}
 use Rattle.table.specs.Lines.{count_line}
@@ -11,10 +12,16 @@ use Rattle.table.proofs.Starts.{first_moves, first_halts}
 use Rattle.table.proofs.Texts.{too_short, too_long, first_form, count_low, count_high, count_start, row_refused, row_taken, text_after, text_ends, same_parts}
 use Rattle.table.proofs.read.read.Goals as goal
 
-pub returns-then-text-lt1 : goal.returns-then-text-lt1
-returns-then-text-lt1 c =
+some_bytes : (bs : List ℕ) (empty : Bool) → empty ≡ (length bs == 0) → empty ≡ false → 1 ≤ length bs
+some_bytes bs empty e is = let other = eqb-false (length bs) 0 (sym e ∙ is) in omega (arith, other)
+
+no_bytes : (bs : List ℕ) (empty : Bool) → empty ≡ (length bs == 0) → empty ≡ true → length bs ≤ 0
+no_bytes bs empty e is = let none = eqb-true (length bs) 0 (sym e ∙ is) in omega (arith, none)
+
+pub returns-then-is_empty : goal.returns-then-is_empty
+returns-then-is_empty c =
     judged c.args.text.now (Err TextLength)
-    (⊎_elim (λ h. too_short c.args.text.now h) (λ h. too_long c.args.text.now h.1) c.then-text-lt1.either)
+    (⊎_elim (λ h. too_short c.args.text.now (omega (arith, no_bytes c.args.text.now _ c.is_empty.ensures h))) (λ h. too_long c.args.text.now h.1) c.then-is_empty.either)
 
 pub returns-in_err-count : goal.returns-in_err-count
 returns-in_err-count c =
@@ -24,7 +31,7 @@ returns-in_err-count c =
     let e : c.in_err-count.field-0.0 ≡ LineForm (at 1 m.0) = search (rules, m.2) in
     rw (p.1, p.2, e)
     (judged c.args.text.now (Err (LineForm (at 1 m.0)))
-    (first_form c.args.text.now c.if-text-lt1.false c.if-text-gt-MOST_BYTES.false m.0 f.0 (sym (zero-add _) ∙ f.1)))
+    (first_form c.args.text.now (some_bytes c.args.text.now _ c.is_empty.ensures c.if-is_empty.false) c.if-text-gt-MOST_BYTES.false m.0 f.0 (sym (zero-add _) ∙ f.1)))
 
 pub returns-then-rows-lt1 : goal.returns-then-rows-lt1
 returns-then-rows-lt1 c =
@@ -33,8 +40,8 @@ returns-then-rows-lt1 c =
     let found = past_found _ _ _ _ _ _ moves in
     judged c.args.text.now (Err (RowCount (at 1 0)))
     (⊎_elim
-    (λ h. count_low c.args.text.now c.if-text-lt1.false c.if-text-gt-MOST_BYTES.false _ _ _ _ v.1 found h)
-    (λ h. count_high c.args.text.now c.if-text-lt1.false c.if-text-gt-MOST_BYTES.false _ _ _ _ v.1 found h.1)
+    (λ h. count_low c.args.text.now (some_bytes c.args.text.now _ c.is_empty.ensures c.if-is_empty.false) c.if-text-gt-MOST_BYTES.false _ _ _ _ v.1 found h)
+    (λ h. count_high c.args.text.now (some_bytes c.args.text.now _ c.is_empty.ensures c.if-is_empty.false) c.if-text-gt-MOST_BYTES.false _ _ _ _ v.1 found h.1)
     c.then-rows-lt1.either)
 
 pub loop-row-init : goal.loop-row-init
@@ -43,7 +50,7 @@ loop-row-init c =
     let moves = first_moves c.args.text.now c.new.result c.new.ensures.rest c.new.ensures.place _ c.in_ok-count.first_row v in
     let fresh = c.new-draft.ensures in
     let bs = c.args.text.now in (
-      count_start bs c.if-text-lt1.false c.if-text-gt-MOST_BYTES.false _ _ _ _ v.1 (past_found _ _ _ _ _ _ moves) c.if-rows-lt1.false c.if-rows-gt-MOST_ROWS.false _ (same_parts [] [] _ 1 _ fresh.tasks fresh.common ∙ ap (λ names. reading (contents names) c.new-draft.result) (sym c.new-names.ensures)),
+      count_start bs (some_bytes c.args.text.now _ c.is_empty.ensures c.if-is_empty.false) c.if-text-gt-MOST_BYTES.false _ _ _ _ v.1 (past_found _ _ _ _ _ _ moves) c.if-rows-lt1.false c.if-rows-gt-MOST_ROWS.false _ (same_parts [] [] _ 1 _ fresh.tasks fresh.common ∙ ap (λ names. reading (contents names) c.new-draft.result) (sym c.new-names.ensures)),
       ap length fresh.tasks,
       ap length c.new-names.ensures,
     )
@@ -63,15 +70,15 @@ loop-row-preserved c =
       c.push.ensures.len ∙ ap (λ n. n + 1) c.loop-row.invariant.2,
     )
 
-pub returns-then-at-gt0 : goal.returns-then-at-gt0
-returns-then-at-gt0 c =
+pub returns-then-not-is_empty : goal.returns-then-not-is_empty
+returns-then-not-is_empty c =
     judged c.args.text.now (Err (TextAfter (at (c.in_ok-count.count + 2) c.loop-row.at.place)))
-    (text_after c.args.text.now c.in_ok-count.count c.loop-row.row c.loop-row.at c.loop-row.names.items c.loop-row.draft c.loop-row.invariant.0 c.loop-row-test.false c.loop-row.auto.row-end c.if-at-gt0.true)
+    (text_after c.args.text.now c.in_ok-count.count c.loop-row.row c.loop-row.at c.loop-row.names.items c.loop-row.draft c.loop-row.invariant.0 c.loop-row-test.false c.loop-row.auto.row-end (some_bytes c.loop-row.at.rest.now _ c.is_empty-2.ensures c.if-not-is_empty.true))
 
 pub returns : goal.returns
 returns c =
     let d = c.finish.ensures in
     judged c.args.text.now (Ok c.finish.result) (
       contents c.loop-row.names.items,
-      text_ends c.args.text.now c.in_ok-count.count c.loop-row.row c.loop-row.at c.loop-row.names.items c.loop-row.draft c.loop-row.invariant.0 c.loop-row-test.false c.if-at-gt0.false _ _ d.tasks d.common,
+      text_ends c.args.text.now c.in_ok-count.count c.loop-row.row c.loop-row.at c.loop-row.names.items c.loop-row.draft c.loop-row.invariant.0 c.loop-row-test.false (no_bytes c.loop-row.at.rest.now _ c.is_empty-2.ensures c.if-not-is_empty.false) _ _ d.tasks d.common,
     )
