@@ -1,8 +1,10 @@
 -- Parts of a line that are read one after the other are read together: what a part says holds whatever pieces come
 -- after it, so two parts join, and a part that is stuck is stuck for the whole. Here are also the smallest parts: a
 -- mark, and a word.
-use Rattle.std.proofs.Common.{◌≡◌, ℕ, zero, suc, ◌+◌, ◌<◌, ◌≤◌, Bool, true, false, cond, List, [], ◌∷◌, ◌++◌, length, get_or, take, drop, sym, refl, ap, ◌∙◌, append_assoc, add-zero, arith, length-drop, eq-eqb, ne_eqb}
+use Rattle.std.proofs.Common.{◌≡◌, ℕ, Result, MatchResult, zero, suc, ◌+◌, ◌<◌, ◌≤◌, Bool, true, false, cond, List, [], ◌∷◌, ◌++◌, length, get_or, take, drop, sym, refl, ap, ◌∙◌, append_assoc, add-zero, arith, length-drop, eq-eqb, ne_eqb}
 use Rattle.std.proofs.lemmas.List.{drop-drop}
+use Rattle.std.proofs.lemmas.Result.{err_from_is_err_and}
+use Rattle.std.specs.Result.{IsErrAnd}
 use Rattle.table.specs.Form.{Class, Piece, mark, word}
 use Rattle.table.specs.Scan.{span, word_size}
 use Rattle.table.specs.Steps.{Past, Stuck}
@@ -30,6 +32,10 @@ stuck_then {ps} {qs} {bs} {p} {ws} {rest} {q} {r} a s =
       reach = λ more. rw append_assoc (a.reach (qs ++ more) ∙ s.reach more);
       fit = λ more. rw append_assoc (a.fit (qs ++ more) ∙ s.fit more);
     }
+
+-- the exit of a `?` hands on the place where its part was stuck
+pub halted : {T : Type 0} (P : T → Type 0) {ps : List Piece} {bs : List ℕ} {p q : ℕ} (r : Result T ℕ) → IsErrAnd r (λ e. e ≡ q) → Stuck ps bs p q → MatchResult r P (λ e. Stuck ps bs p e)
+halted P r exit s = let e = err_from_is_err_and r exit in rw (e.1, e.2) s
 
 pub past_mark : (b : ℕ) (bs : List ℕ) (p : ℕ) → 0 < length bs → get_or bs 0 0 ≡ b → Past (mark b ∷ []) bs p [] (drop 1 bs) (p + 1)
 past_mark b [] p some is = absurd (omega arith)
