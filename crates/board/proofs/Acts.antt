@@ -1,8 +1,8 @@
 -- Each call of the board is one step of the rules: what it does to the core and what it does to the alarm, put together. The
 -- wait that the alarm answered is the one that the step's entry names.
-use Rattle.std.proofs.Common.{◌≡◌, ℕ, ◌<◌, ◌≤◌, Bool, eqb, ◌⊎◌, Some, None, Ok, Err, Option, Result, sym, refl, ap, ◌∙◌, subst, inl, inr, arith, MatchResult}
+use Rattle.std.proofs.Common.{◌≡◌, ℕ, ◌<◌, ◌≤◌, Bool, IsTrue, eqb, ltb, ◌⊎◌, Some, None, Ok, Err, Option, Result, sym, refl, ap, ◌∙◌, subst, inl, inr, arith, MatchOption, MatchResult}
 use Rattle.std.specs.Result.{IsErrAnd}
-use Rattle.std.proofs.lemmas.Bool.{eq-eqb, ne_eqb, cond-true, cond-false}
+use Rattle.std.proofs.lemmas.Bool.{ltb-true, eq-eqb, ne_eqb, cond-true, cond-false}
 use Rattle.alarm.specs.Effects.{Passed}
 use Rattle.alarm.specs.Meaning.{onward, rings}
 use Rattle.planner.specs.declared.plan.Plan.{Plan}
@@ -55,6 +55,12 @@ wakes_at m x e q = q ∙ sym (cond-true (eqb m 0) Awake Asleep (eq-eqb m 0 e))
 
 pub sleeps_at : (m : ℕ) (x : Mode) → (m ≡ 0 → ⊥) → x ≡ Asleep → x ≡ mode_for m
 sleeps_at m x e q = q ∙ sym (cond-false (eqb m 0) Awake Asleep (ne_eqb m 0 e))
+
+-- o is what the alarm said of the ticks left, and later that it is unset or has more left than the sleep
+pub unset_or_more : (a o : Option ℕ) (s : ℕ) (later : Bool) → o ≡ a → MatchOption o (IsTrue later) (λ l. later ≡ ltb s l) → IsTrue later
+    → (a ≡ None) ⊎ ((l : ℕ) × (a ≡ Some l) × (s < l))
+unset_or_more a None s later e m t = inl (sym e)
+unset_or_more a (Some l) s later e m t = inr (l, sym e, ltb-true s l (sym m ∙ t))
 
 -- the alarm was unset or had more left, and was set
 pub sets : (R : Rules) (a : Option ℕ) (s m : ℕ) (w : View) → Asked R s m w → (a ≡ None) ⊎ ((l : ℕ) × (a ≡ Some l) × (s < l)) → Sets Asleep a R s (Some m) w

@@ -18,11 +18,7 @@ impl<T: Alarm> Board<T> {
         requires { self.old.core.mode ≡ Asleep }
         ensures { Arms T.Alarm self.old sleep self.new }
     {
-        let later = match self.alarm.left() {
-            None => true,
-            Some(left) => sleep < left,
-        };
-        if later {
+        if self.alarm.left().is_none_or(|left| sleep < left) {
             if self.alarm.set(sleep) == 0 {
                 self.core.wake();
             }

@@ -127,8 +127,8 @@ impl Core {
         if !self.is_apart(known, task.gap) {
             return Err(Refusal::TooSoon);
         }
-        self.jobs
-            .open(known, self.now, self.now + u64::from(task.due));
+        let due = self.now + u64::from(task.due);
+        self.jobs.open(known, self.now, due);
         Ok(sleep)
     }
 
