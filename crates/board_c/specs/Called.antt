@@ -1,6 +1,7 @@
 -- What a list of calls for C answers and writes. Assumes nothing.
 --   Answered                       the calls were made on a new board over an alarm, and what each answered stands in its place
 --   Over                           the same over an alarm, or over it under a ramp, if its warm-up is within its limit
+--   told                           the number of what was made, or refused
 --   Piled                          the same over the alarm of a number: a counter, a divider, or a top-up over a divider
 --   no_such_alarm, too_few_places  what is answered for another alarm, and for more calls than places
 --   Unmade                         why no call was made
@@ -48,6 +49,11 @@ Over {X} below above plan x warm codes before number after =
     ((number ≡ 0) × (warm ≡ 0) × Answered below plan x codes before after)
     ⊎ (((number ≡ 0) × (1 ≤ warm) × (warm ≤ warm_up_limit) × ((y : Ramp X) × Warmed below x warm y × Answered above plan y codes before after))
     ⊎ ((number ≡ number_of WarmUpLimit) × (warm_up_limit < warm) × (after ≡ before)))
+
+-- the number that is told of what was made, or refused
+abbrev pub told : Result (Unit {0}) Refusal → ℕ
+told (Ok _) = 0
+told (Err e) = number_of e
 
 abbrev pub ramp_over_counter : Ghosts (Ramp Counter)
 ramp_over_counter = ramp.ghosts the_counter.the_row counter.ghosts counter.dict

@@ -4,10 +4,10 @@
 //! nothing is allocated.
 #![tactic(auto)]
 
-ghost use Rattle.std.specs.Prelude.{◌≤◌, length};
+ghost use Rattle.std.specs.Prelude.{◌≡◌, ◌≤◌, length};
 ghost use mir.Syntax.{Dict};
 ghost use Rattle.alarm.specs.contracts.ramp.RampAlarm.TheImpl.{ghosts as ramp_over};
-ghost use Rattle.board_c.specs.Called.{Answered, Over, Called};
+ghost use Rattle.board_c.specs.Called.{Answered, Over, told, Called};
 
 use crate::codes::decode;
 use crate::record::AnswerRecord;
@@ -18,10 +18,12 @@ use alarm::ramp::Ramp;
 use alarm::topup::TopUp;
 use board::board::Board;
 use planner::plan::Plan;
+use refusal::cases::Refusal;
 
 mod codes;
 pub mod record;
 
+// Numbers and no enum, since they cross to C.
 /// What is answered for an alarm that is none of the three.
 const NO_SUCH_ALARM: u32 = 100;
 
@@ -47,21 +49,28 @@ fn answer_over<T: Alarm + Drop>(
     warm: u32,
     calls: &[u64],
     answers: &mut [AnswerRecord],
-) -> u32
+) -> Result<(), Refusal>
     requires { length calls.now ≤ length answers.now }
-    ensures { (calls_found : Dict) → Over T.Alarm (ramp_over T.row T.Alarm calls_found) plan alarm warm calls.now answers.old result answers.new }
+    ensures { (calls_found : Dict) → Over T.Alarm (ramp_over T.row T.Alarm calls_found) plan alarm warm calls.now answers.old (told result) answers.new }
 {
     if warm == 0 {
         answer_all(plan, alarm, calls, answers);
-        return 0;
+        return Ok(());
     }
     match Ramp::new(alarm, warm) {
         Ok(ramp) => {
             answer_all(plan, ramp, calls, answers);
-            0
+            Ok(())
         }
-        Err((_, refusal)) => refusal.record().number,
+        Err((_, refusal)) => Err(refusal),
     }
+}
+
+/// What C is told: 0, or the refusal's number.
+fn number(made: Result<(), Refusal>) -> u32
+    ensures { result ≡ told made }
+{
+    made.map_or_else(|refusal| refusal.record().number, |_| 0)
 }
 
 /// Makes the calls on a new board over a table's plan, and writes what each answered, one record a call; places past
@@ -83,10 +92,11 @@ pub extern "C" fn bolzighes_calls(
     }
     let mut plan = Plan::empty();
     match plan.fill(text) {
+        // The alarm is a number, since it comes from C.
         Ok(()) => match alarm {
-            0 => answer_over(plan, Counter::new(), warm, calls, answers),
-            1 => answer_over(plan, Divider::new(), warm, calls, answers),
-            2 => answer_over(plan, TopUp::new(Divider::new()), warm, calls, answers),
+            0 => number(answer_over(plan, Counter::new(), warm, calls, answers)),
+            1 => number(answer_over(plan, Divider::new(), warm, calls, answers)),
+            2 => number(answer_over(plan, TopUp::new(Divider::new()), warm, calls, answers)),
             _ => NO_SUCH_ALARM,
         },
         Err(refusal) => refusal.record().number,

@@ -12,7 +12,7 @@ returns-in-0 c =
       places = c.if-answers-calls.false;
       plan = c.fill.new.self;
       filled = c.in-Ok.ensures;
-      piled = inl (c.in-0.is, (c.new.result, c.answer_over.ensures counter.dict));
+      piled = inl (c.in-0.is, (c.new.result, rw c.number.ensures (c.answer_over.ensures counter.dict)));
     })
 
 pub returns-in-1 : goal.returns-in-1
@@ -21,7 +21,7 @@ returns-in-1 c =
       places = c.if-answers-calls.false;
       plan = c.fill.new.self;
       filled = c.in-Ok.ensures;
-      piled = inr (inl (c.in-1.is, (c.new-in-1.result, c.new-in-1.ensures.phase, c.answer_over-in-1.ensures divider.dict)));
+      piled = inr (inl (c.in-1.is, (c.new-in-1.result, c.new-in-1.ensures.phase, rw c.number-in-1.ensures (c.answer_over-in-1.ensures divider.dict))));
     })
 
 pub returns-in-2 : goal.returns-in-2
@@ -30,5 +30,5 @@ returns-in-2 c =
       places = c.if-answers-calls.false;
       plan = c.fill.new.self;
       filled = c.in-Ok.ensures;
-      piled = inr (inr (c.in-2.is, (c.new-in-2-2.result, c.new-in-2-2.ensures.below.3 ∙ c.new-in-2.ensures.phase, c.answer_over-in-2.ensures (topup.dict the_divider.the_row divider.ghosts divider.dict))));
+      piled = inr (inr (c.in-2.is, (c.new-in-2-2.result, c.new-in-2-2.ensures.below.3 ∙ c.new-in-2.ensures.phase, rw c.number-in-2.ensures (c.answer_over-in-2.ensures (topup.dict the_divider.the_row divider.ghosts divider.dict)))));
     })
