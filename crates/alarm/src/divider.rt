@@ -42,6 +42,7 @@ impl Divider {
     }
 }
 
+// A wait, and so a number with 0 for none, as `set` answers it.
 /// The ticks from a phase to the last boundary within the next `k`, 0 if there is none.
 #[tactic(auto, using(crate::proofs::Chosen::quotient_chooses))]
 fn last_boundary(phase: u32, k: u32) -> u32

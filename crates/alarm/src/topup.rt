@@ -62,6 +62,7 @@ impl<L: Alarm> Alarm for TopUp<L> {
         wait
     }
 
+    // As a ramp's: a trait's default method has no fields to clear.
     fn clear(&mut self) {
         self.below.clear();
         self.count = Countdown::unset();

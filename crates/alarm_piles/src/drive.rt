@@ -4,6 +4,7 @@ ghost use Rattle.alarm.specs.Effects.{SetTo};
 
 use alarm::base::Alarm;
 
+// The pass is the wait, and so a number with 0 for none, as `set` answers it.
 /// Sets the alarm to `n`, lets ticks go by until it rings, and answers at which pass that was, 0 if the wait is 0: a wait that this alarm chooses.
 pub(crate) fn rings_at<L: Alarm>(alarm: &mut L, n: u32) -> u32
     ensures chosen { (y : L) × SetTo L.Alarm alarm.old n result y }

@@ -32,6 +32,7 @@ pub(crate) fn sleeps_of(table: &Table) -> Result<[u32; MOST_ROWS], Refusal>
     let mut sleeps = [u32::MAX; MOST_ROWS];
     let common = table.common();
     let end = common + 1;
+    // From due to due: no range has these steps.
     while walk.at < end {
         let from = walk.at;
         let until = walk.next_due(end);

@@ -40,6 +40,7 @@ pub extern "C" fn bolzighes_sleep(text: &[u8], row: u64) -> u32
     ensures value { result ≡ quoted (answer_to text.now) row }
     ensures quotes { Quotes text.now row result }
 {
+    // By `as`, since no `From` leads from u64 to usize; one number answers both, since it goes to C.
     match sleep_in(text, row as usize) {
         Ok(sleep) => sleep,
         Err(refusal) => REFUSED + refusal.record().number,

@@ -1,5 +1,6 @@
 //! The steps by which one element of a binary heap finds its place. Each keeps the elements that it was given, whatever
 //! they are; that they end up as a heap is promised where all but the one were in order.
+// A slice and a place in it are a step's whole state: a struct of both would only lend the slice once more.
 ghost use Rattle.std.specs.Prelude.{◌≡◌, ◌+◌, ◌-◌, ◌*◌, ◌<◌, ◌≤◌, length, MatchOption, slice_index_or};
 ghost use Rattle.std.specs.List.Sorted.{IsPermutation};
 ghost use Rattle.queue.specs.Order.{before};

@@ -14,6 +14,7 @@ pub struct Record {
     pub value: u32,
 }
 
+// Number and layer are numbers, as they are printed.
 /// Of a refusal that names nothing.
 fn bare(number: u32, layer: u32) -> Record
     ensures { result ≡ plain number layer }

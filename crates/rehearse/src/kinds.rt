@@ -26,6 +26,7 @@ pub(crate) struct Rehearsal<'a> {
 impl<'a> Rehearsal<'a> {
     /// Makes the calls over the alarm that is named so.
     pub(crate) fn run(&self, kind: &str) -> anyhow::Result<()> {
+        // Each name makes an alarm of another type: a table of makers would have to hand out dyn alarms.
         match kind {
             "counter" => self.over(Counter::new()),
             "divider" => self.over(Divider::new()),

@@ -10,6 +10,7 @@ fn gcd(a: u32, b: u32) -> u32
 {
     let mut high = a;
     let mut low = b;
+    // Euclid's steps count nothing.
     while low != 0 {
         let rest = high % low;
         high = low;

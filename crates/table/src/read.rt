@@ -84,6 +84,7 @@ pub fn read(text: &[u8]) -> Result<Table, Refusal>
     let mut names: ArrayVec<&[u8], MOST_ROWS> = ArrayVec::new();
     let mut draft = Rows::new();
     let mut at = first_row;
+    // The row's number is no index: it tells the line.
     for row in 0..rows {
         let (name, next) = next_row(at, row + 2, &names, &mut draft)?;
         names.push(name);

@@ -13,10 +13,7 @@ mod tests {
 
     // What a text is refused for, if it is.
     fn refusal_of(text: &[u8]) -> Option<Refusal> {
-        match read(text) {
-            Ok(_) => None,
-            Err(refusal) => Some(refusal),
-        }
+        read(text).err()
     }
 
     #[test]

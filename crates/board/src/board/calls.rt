@@ -100,6 +100,7 @@ impl<T: Alarm> Board<T> {
     {
         match self.act(Call::Tick)? {
             Answer::Ticked(who, rang) => Ok((who, rang)),
+            // No other answer is a tick's; an enum for each call would make four of one.
             _ => unreachable(),
         }
     }

@@ -23,6 +23,7 @@ impl<'a> Walk<'a> {
         let mut points = [Point { time: 0, row: 0 }; MOST_ROWS];
         let mut held = 0;
         for task in tasks {
+            // By `as`, since no `From` leads from usize to u32: there are at most 64 rows.
             let first = Point {
                 time: task.due,
                 row: held as u32,
@@ -68,7 +69,9 @@ impl<'a> Walk<'a> {
         ensures value { need self.old.tasks.now self.old.at ≡ self.new.total }
     {
         let mut first = self.first();
+        // As long as the queue's first is here: it counts nothing.
         while first.time == self.at {
+            // By `as`, since no `From` leads from u32 to usize.
             let task = self.tasks[first.row as usize];
             let next = Point {
                 time: self.at + task.gap,
@@ -87,6 +90,7 @@ impl<'a> Walk<'a> {
         ensures { MatchResult result (λ least. Onward self.old until self.new × LeastMargin self.old.tasks.now self.old.at until least) (Overdemands self.old.tasks.now self.old.at) }
     {
         let mut least = u32::MAX;
+        // From point to point, and not from tick to tick: no range has these steps.
         while self.at < until {
             let at = self.at;
             self.take_all();

@@ -19,6 +19,7 @@ fn common_front(left: &[u8], right: &[u8]) -> usize
         .count()
 }
 
+// What fails answers the place alone, since there is one way to fail: the caller knows the line, and makes the refusal.
 impl<'a> Cursor<'a> {
     /// At the start of a text.
     pub(crate) fn new(text: &'a [u8]) -> Cursor<'a>
