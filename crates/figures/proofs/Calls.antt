@@ -1,7 +1,6 @@
 -- From the cutter's text to its board: the text is read as the cutter's tasks, which are accepted, so the plan is theirs, and
 -- there is one list of sleeps; the calls on its board are a run of the rules with that plan, of which the figures speak.
-use Rattle.std.proofs.Common.{◌≡◌, ℕ, List, [], ◌∷◌, length, Some, Ok, Err, Result, sym, refl, ap, ◌∙◌, subst}
-use Rattle.std.proofs.lemmas.Bool.{false≢true}
+use Rattle.std.proofs.Common.{◌≡◌, ℕ, List, [], ◌∷◌, length, Some, Ok, IsOk, Result, sym, refl, ap, ◌∙◌, subst}
 use Rattle.refusal.specs.declared.cases.Refusal.{Refusal}
 use Rattle.table.specs.declared.task.Task.{Task}
 use Rattle.table.specs.Tasks.{LeastCommon}
@@ -44,8 +43,8 @@ cutter_filled a plan f =
     let j = cutter_judged (Ok a) plan f in
     (j.answered.holds, same_ok (computed cutter 112) (sleeps_of plan) sleeps_of_cutter j.computes cutter_computed)
 
-pub cutter_unrefused : {A : Type 0} (e : Refusal) (plan : Plan) → Filled {A = A} cutter_text (Err e) plan → ⊥
-cutter_unrefused e plan f = false≢true ((cutter_judged (Err e) plan f).all_accepted cutter_quoted.accepted)
+pub cutter_unrefused : {A : Type 0} (r : Result A Refusal) (plan : Plan) → Filled cutter_text r plan → IsOk r
+cutter_unrefused r plan f = (cutter_judged r plan f).all_accepted cutter_quoted.accepted
 
 -- the rules and the first view of a board over that plan and a counter
 same_rules : (plan : Plan) (R : Rules) → planned plan ≡ cutter → sleeps_of plan ≡ sleeps_of_cutter → R ≡ rules_for plan counter_reach 1 → R ≡ cutter_rules

@@ -22,10 +22,8 @@ pub fn cutter_plan() -> Plan
     ensures sleeps { sleeps_of result ≡ sleeps_of_cutter }
 {
     let mut plan = Plan::empty();
-    match plan.fill(CUTTER) {
-        Ok(()) => plan,
-        Err(_) => unreachable(),
-    }
+    plan.fill(CUTTER).unwrap();
+    plan
 }
 
 /// A board over that plan and a counter, its fan released at 0.

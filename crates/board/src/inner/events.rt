@@ -110,10 +110,8 @@ impl Core {
     fn is_apart(&self, known: KnownRow, gap: u32) -> bool
         ensures { MatchBool result (Apart (slot_at self.entry.now.jobs.slots known.row).last gap self.entry.now.now) (Soon (slot_at self.entry.now.jobs.slots known.row).last gap self.entry.now.now) }
     {
-        match self.jobs.slot(known).last {
-            None => true,
-            Some(last) => u64::from(gap) <= self.now - last,
-        }
+        let last = self.jobs.slot(known).last;
+        last.is_none_or(|last| u64::from(gap) <= self.now - last)
     }
 
     /// Opens a job of the row, and answers the row's sleep.
