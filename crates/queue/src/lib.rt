@@ -40,6 +40,7 @@ pub fn peek<T: Ord + Copy>(heap: &[T], len: usize) -> Option<T>
 pub fn pop<T: Ord + Copy>(heap: &mut [T], len: usize) -> Option<(T, usize)>
     ensures { MatchOption result (Vacant heap.old len × (heap.new ≡ heap.old)) (λ p. First (before T.cmp) p.0 heap.old len × Left (before T.cmp) p.0 heap.old len heap.new p.1) }
 {
+    // Not by `get_mut(..len)?`: of what the slice ends as, std says nothing then.
     if len > heap.len() {
         return None;
     }

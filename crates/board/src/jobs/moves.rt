@@ -63,6 +63,8 @@ impl Jobs {
     }
 
     /// Closes the row's job, which leaves the queue wherever it stands there.
+    // Out of line, so that the calls that close nothing stay short: with this inlined an awake tick takes a tenth longer.
+    #[inline(never)]
     pub(crate) fn close(&mut self, known: KnownRow)
         requires { Working self.old.slots known.row }
         ensures { self.new.slots ≡ slice_set self.old.slots known.row (closed (slot_at self.old.slots known.row)) }
