@@ -1,4 +1,4 @@
-//! A counter of sixteen bits: exact, and as far as they reach.
+//! A counter that is exact as far as sixteen bits reach.
 ghost use Rattle.std.specs.Prelude.{◌≡◌, ℕ, ◌≤◌, min, Some, None};
 ghost use Rattle.alarm.specs.Meaning.{waiting, onward};
 ghost use Rattle.alarm.specs.Counting.{counter_reach};

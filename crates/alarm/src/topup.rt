@@ -62,7 +62,7 @@ impl<L: Alarm> Alarm for TopUp<L> {
         wait
     }
 
-    // As a ramp's: a trait's default method has no fields to clear.
+    // `clear` and `left` are as a ramp's: a trait's default method has no fields to work on.
     fn clear(&mut self) {
         self.below.clear();
         self.count = Countdown::unset();

@@ -48,9 +48,7 @@ fn handed_back() -> (u32, u32)
 {
     let mut counter = Counter::new();
     let _ = counter.set(7);
-    let Err((counter, refusal)) = Ramp::new(counter, 1_001) else {
-        unreachable!()
-    };
+    let (counter, refusal) = Ramp::new(counter, 1_001).unwrap_err();
     (counter.left().unwrap(), refusal.record().number)
 }
 

@@ -28,10 +28,7 @@ fn ramp_over<L: Alarm + Drop>(below: L) -> Ramp<L>
     ensures warm { result.warm ≡ 10 }
     ensures unset { result.count.rest ≡ None }
 {
-    let Ok(ramp) = Ramp::new(below, WARM_UP) else {
-        unreachable!()
-    };
-    ramp
+    Ramp::new(below, WARM_UP).unwrap()
 }
 
 /// Each pile, by its name.

@@ -11,6 +11,7 @@ const STEP: u32 = 10;
 /// The longest wait: 25 steps.
 const REACH: u32 = 250;
 
+// Its calls are a counter's, on purpose in full: it is the example of a kind that others write, and promises less.
 #[derive(Drop)]
 pub struct Stepped {
     /// The ticks left.

@@ -16,7 +16,7 @@ pub struct KnownRow {
     ghost in_range: { row < 64 },
 }
 
-// Arrays with the number held beside them: a board has no heap, and the queue works on a slice that is lent to it.
+// The turns are an array with the number held beside it: the queue works on a lent slice, and needs the free place past its own.
 /// The slots, and the turns of the jobs that are open in them, the first `held` of the array.
 #[derive(Drop)]
 pub struct Jobs {

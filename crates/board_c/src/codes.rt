@@ -22,6 +22,7 @@ const REPORTED: u32 = 3;
 
 const REFUSED: u32 = 4;
 
+// No `From`: a number and a call are both other crates' types.
 /// The call that a number stands for; the row of a tick is not looked at.
 pub(crate) fn decode(code: u64) -> Call
     ensures { result ≡ decoded code }

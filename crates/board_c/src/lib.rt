@@ -36,6 +36,7 @@ fn answer_all<T: Alarm + Drop>(plan: Plan, alarm: T, calls: &[u64], answers: &mu
     ensures { Answered T.Alarm plan alarm calls.now answers.old answers.new }
 {
     let mut board = Board::new(plan, alarm);
+    // By index: of places that `iter_mut` lent to a `zip` a proof knows their number alone.
     for (i, code) in calls.iter().enumerate() {
         answers[i] = AnswerRecord::from(board.act(decode(*code)));
     }
@@ -57,13 +58,9 @@ fn answer_over<T: Alarm + Drop>(
         answer_all(plan, alarm, calls, answers);
         return Ok(());
     }
-    match Ramp::new(alarm, warm) {
-        Ok(ramp) => {
-            answer_all(plan, ramp, calls, answers);
-            Ok(())
-        }
-        Err((_, refusal)) => Err(refusal),
-    }
+    let ramp = Ramp::new(alarm, warm).map_err(|(_, refusal)| refusal)?;
+    answer_all(plan, ramp, calls, answers);
+    Ok(())
 }
 
 /// What C is told: 0, or the refusal's number.
@@ -91,14 +88,15 @@ pub extern "C" fn bolzighes_calls(
         return TOO_FEW_PLACES;
     }
     let mut plan = Plan::empty();
-    match plan.fill(text) {
-        // The alarm is a number, since it comes from C.
-        Ok(()) => match alarm {
-            0 => number(answer_over(plan, Counter::new(), warm, calls, answers)),
-            1 => number(answer_over(plan, Divider::new(), warm, calls, answers)),
-            2 => number(answer_over(plan, TopUp::new(Divider::new()), warm, calls, answers)),
-            _ => NO_SUCH_ALARM,
-        },
-        Err(refusal) => refusal.record().number,
+    if let Err(refusal) = plan.fill(text) {
+        return number(Err(refusal));
     }
+    // The alarm is a number, since it comes from C.
+    let made = match alarm {
+        0 => answer_over(plan, Counter::new(), warm, calls, answers),
+        1 => answer_over(plan, Divider::new(), warm, calls, answers),
+        2 => answer_over(plan, TopUp::new(Divider::new()), warm, calls, answers),
+        _ => return NO_SUCH_ALARM,
+    };
+    number(made)
 }

@@ -36,6 +36,7 @@ pub fn fan_released() -> Board<Counter>
     board
 }
 
+// Its first call is that of `fan_released`, whose contract tells what is left and no more.
 /// Such a board with its head released a tick later.
 pub fn head_released() -> Board<Counter>
     ensures left { left_on result ≡ Some 4 }

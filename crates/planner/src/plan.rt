@@ -15,8 +15,8 @@ mod text;
 #[derive(Clone, Copy)]
 pub struct Plan {
     rows: Rows,
-    // An array beside the rows, and no heap: a plan is lent and copied by a controller. The rows are the table's own,
-    // with what their type knows; pairs of a task and its sleep would have to say all of that again.
+    // An array, since a plan is Copy; and beside the rows, which are the table's own, with what their type knows: pairs of a
+    // task and its sleep would have to say all of that again.
     sleeps: [u32; MOST_ROWS],
     load: u32,
     ghost sizes: { length sleeps ≡ 64 },

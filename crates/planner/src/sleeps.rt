@@ -15,6 +15,7 @@ fn lower(sleeps: &mut [u32], tasks: &[Task], from: u32, least: u32)
     requires { length tasks.now ≤ length sleeps.old }
     ensures { Lowered tasks.now from least sleeps.old sleeps.new }
 {
+    // By index: of sleeps that `iter_mut` lent to a `zip` a proof knows their number alone.
     for (row, task) in tasks.iter().enumerate() {
         if task.due <= from {
             sleeps[row] = sleeps[row].min(least);
@@ -22,6 +23,7 @@ fn lower(sleeps: &mut [u32], tasks: &[Task], from: u32, least: u32)
     }
 }
 
+// An array, as the plan keeps it: those of the rows come first.
 /// The sleeps of an accepted table, or the refusal of the shortest window without room. The walk ends with the window of one common
 /// period: what is longer has that window's margin and that of a shorter one.
 pub(crate) fn sleeps_of(table: &Table) -> Result<[u32; MOST_ROWS], Refusal>

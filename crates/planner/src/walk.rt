@@ -13,6 +13,7 @@ mod steps;
 #[derive(Clone, Copy)]
 pub struct Walk<'a> {
     pub tasks: &'a [Task],
+    // As many as there are tasks: an array, since the queue works on a lent slice.
     points: [Point; MOST_ROWS],
     total: u32,
     pub at: u32,

@@ -41,8 +41,5 @@ pub extern "C" fn bolzighes_sleep(text: &[u8], row: u64) -> u32
     ensures quotes { Quotes text.now row result }
 {
     // By `as`, since no `From` leads from u64 to usize; one number answers both, since it goes to C.
-    match sleep_in(text, row as usize) {
-        Ok(sleep) => sleep,
-        Err(refusal) => REFUSED + refusal.record().number,
-    }
+    sleep_in(text, row as usize).unwrap_or_else(|refusal| REFUSED + refusal.record().number)
 }

@@ -1,7 +1,6 @@
 -- A queue in a lent slice: its elements, the least of them, and what each call does to them. Assumes nothing.
 --   take n xs   the elements of the queue that the first n places of the slice xs hold
 --   drop n xs   the places past it
---   Shuffled    the same elements, each as often, in another order (std's word)
 --   Queue       the first n places are a queue
 --   Least       no element of a list comes before x
 --   First       x is the answer where the smallest element is asked for

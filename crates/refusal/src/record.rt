@@ -14,7 +14,7 @@ pub struct Record {
     pub value: u32,
 }
 
-// Number and layer are numbers, as they are printed.
+// Number and layer are numbers, and what a case does not name is 0, as it is all printed.
 /// Of a refusal that names nothing.
 fn bare(number: u32, layer: u32) -> Record
     ensures { result ≡ plain number layer }

@@ -4,9 +4,14 @@ use rules::calls::{Answer, Call, Status};
 use rules::slots::Job;
 
 fn show_status(rt: &HostRuntime, status: Status) -> anyhow::Result<()> {
-    let (now, ran, slept) = (status.now, status.ran, status.slept);
+    let Status {
+        now,
+        ran,
+        slept,
+        job,
+    } = status;
     println!(rt; "now {now}, ran {ran}, slept {slept}")?;
-    if let Some(Job { due, given }) = status.job {
+    if let Some(Job { due, given }) = job {
         println!(rt; "  an open job, due {due}, given {given}")?;
     }
     Ok(())

@@ -24,7 +24,7 @@ pub struct Status {
 pub enum Answer {
     Released,
     Closed,
-    /// The row that ran, if any, and whether the alarm rang.
+    /// The row that ran, if any, and whether the alarm rang: the pair that a board's tick answers.
     Ticked(Option<usize>, bool),
     Reported(Status),
 }

@@ -15,7 +15,7 @@ pub struct Job {
 }
 
 /// One row of the board: the tick of its last accepted release, and its open job.
-#[derive(Clone, Copy, PartialEq, Eq, Debug)]
+#[derive(Clone, Copy, PartialEq, Eq, Debug, Default)]
 pub struct Slot {
     pub last: Option<u64>,
     pub job: Option<Job>,

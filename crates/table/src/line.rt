@@ -15,6 +15,7 @@ pub struct Row<'a> {
     pub task: Task,
 }
 
+// What fails answers the place alone, as the cursor's steps do.
 impl<'a> Cursor<'a> {
     /// Reads the first line: `(table 3)`.
     pub(crate) fn count_line(self) -> Result<(u32, Cursor<'a>), usize>

@@ -12,10 +12,10 @@ mod views;
 /// The most rows that a table may have.
 pub const MOST_ROWS: usize = 64;
 
+// An array and a count, since rows, tables and plans are Copy, which no vector is.
 /// The tasks of some rows, none at first: those before `count` in the array. With them their common period, the least
 /// common multiple of their gaps: 1 where there is no row.
 #[derive(Clone, Copy)]
-// An array and a count in place of a vector: the type is Copy, and the planner works in fixed memory.
 pub struct Rows {
     list: [Task; MOST_ROWS],
     count: usize,

@@ -54,8 +54,8 @@ fn number_byte(byte: u8, position: usize) -> bool
     }
 }
 
+// By the first byte and what follows it, never turning back. Inlined at both calls, a table is read in a tenth less time.
 /// How many bytes at the front may stand there, each at its position.
-// Inlined at both calls, a table is read in a tenth less time.
 #[inline(always)]
 fn front_size<F: Fn(u8, usize) -> bool>(text: &[u8], may_stand: F) -> usize
     requires { F.IsAlwaysCallable may_stand }

@@ -153,9 +153,7 @@ mod tests {
 
     #[test]
     fn a_table_has_its_tasks_and_their_common_period(rt: HostRuntime) -> Result<(), Fail> {
-        let Ok(table) = read(THREE_ROWS) else {
-            return Err(Fail::new("refused"));
-        };
+        let table = read(THREE_ROWS)?;
         assert_eq!(rt; table.common(), 112);
         let tasks = table.tasks();
         assert!(rt; tasks.len() == 3);

@@ -1,13 +1,12 @@
 //! Texts that are too long to type.
 use crate::show;
 use std::alloc::{AllocError, Global};
+use std::iter;
 
 /// A table of one row, with so many bytes after it.
 fn padded(heap: Global, after: usize) -> Result<Vec<u8>, AllocError> {
     let mut text = Vec::from_slice(heap, b"(table 1)\n(task a (run 1) (due 4) (gap 4))\n")?;
-    for _ in 0..after {
-        text.push(b'x')?;
-    }
+    text.extend(iter::repeat_n(b'x', after))?;
     Ok(text)
 }
 

@@ -81,6 +81,7 @@ impl<T: Alarm> Board<T> {
         ensures does { Does T.Alarm self.old (Release row) (answer_for (λ _. Released) result) self.new }
         ensures refused { OnErr result (self.new ≡ self.old) }
     {
+        // As `done`, of another call: each call has its name.
         self.act(Call::Release(row)).map(|_| ())
     }
 
@@ -100,8 +101,8 @@ impl<T: Alarm> Board<T> {
     {
         match self.act(Call::Tick)? {
             Answer::Ticked(who, rang) => Ok((who, rang)),
-            // No other answer is a tick's; an enum for each call would make four of one.
-            _ => unreachable(),
+            // No other answer is a tick's: what a call does stands in `act` alone, where mode and call meet.
+            _ => unreachable!(),
         }
     }
 

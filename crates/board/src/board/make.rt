@@ -18,13 +18,12 @@ impl<T: Alarm> Board<T> {
     /// Whatever calls are then made on it, in whatever order, refused ones among them, and over whatever alarm: no due
     /// tick is missed, no sleep is cut short, and no longer sleeps would do (`promise`). Each call of a board is one step
     /// of these rules, so the calls that a user makes are such a list.
-    pub fn new(plan: Plan, alarm: T) -> Board<T>
+    pub fn new(plan: Plan, mut alarm: T) -> Board<T>
         ensures fresh { view_of T.Alarm result ≡ fresh (length (planned plan)) }
         ensures rules { rules_of T.Alarm result ≡ rules_for plan (T.reach alarm) (T.grain alarm) }
         ensures cleared { Cleared T.Alarm alarm result.alarm }
         ensures promise { Promised (rules_of T.Alarm result) (view_of T.Alarm result) }
     {
-        let mut alarm = alarm;
         alarm.clear();
         Board {
             core: Core::new(plan),

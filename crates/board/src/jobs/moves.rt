@@ -11,19 +11,14 @@ use queue::{peek, push, remove};
 use rules::slots::{Job, Slot};
 use table::rows::MOST_ROWS;
 
-const EMPTY: Slot = Slot {
-    last: None,
-    job: None,
-};
-
 impl Jobs {
     /// No row was released yet.
     pub(crate) fn new() -> Jobs
         ensures { result.slots ≡ replicate 64 empty }
     {
         Jobs {
-            slots: [EMPTY; MOST_ROWS],
-            turns: [Turn { due: 0, row: 0 }; MOST_ROWS],
+            slots: [Slot::default(); MOST_ROWS],
+            turns: [Turn::default(); MOST_ROWS],
             held: 0,
         }
     }

@@ -6,6 +6,7 @@ use refusal::cases::Refusal;
 use table::read::read;
 
 impl Plan {
+    // The plan is lent and no result, so that a controller fills the one that it has.
     /// Fills the plan from a table's text, whatever it held before. A refused text leaves it empty.
     pub fn fill(&mut self, text: &[u8]) -> Result<(), Refusal>
         ensures { Filled text.now result self.new }

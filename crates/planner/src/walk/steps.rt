@@ -20,10 +20,10 @@ impl<'a> Walk<'a> {
         ensures start { result.at ≡ 1 }
     {
         let tasks = table.tasks();
-        let mut points = [Point { time: 0, row: 0 }; MOST_ROWS];
+        let mut points = [Point::default(); MOST_ROWS];
         let mut held = 0;
         for task in tasks {
-            // By `as`, since no `From` leads from usize to u32: there are at most 64 rows.
+            // By `as`, since no `From` leads from usize to u32; as many points are held as rows are behind.
             let first = Point {
                 time: task.due,
                 row: held as u32,

@@ -3,7 +3,7 @@ ghost use Rattle.std.specs.Prelude.{◌≡◌, ℕ, ◌+◌, ◌^◌, ◌<◌, �
 ghost use Rattle.table.specs.Form.{mark, word};
 ghost use Rattle.table.specs.Lines.{a_name, a_number, a_field, exactly, decimal};
 ghost use Rattle.table.specs.Steps.{Moves, MovesBy, Halts, Title, shared};
-ghost use Rattle.table.specs.Tokens.{byte_of};
+ghost use Rattle.table.specs.Tokens.{byte_of, lexeme, lexeme_of, place_of};
 
 use crate::cursor::Cursor;
 use crate::token::{Mark, Token, first_token};
@@ -44,11 +44,19 @@ impl<'a> Cursor<'a> {
         }
     }
 
+    /// What stands here.
+    fn token(self) -> Token<'a>
+        ensures value { lexeme_of result ≡ lexeme self.entry.rest.now }
+        ensures place { place_of result ≡ self.entry.place }
+    {
+        first_token(self.rest, self.place)
+    }
+
     /// Reads a mark.
     pub(crate) fn mark(self, want: Mark) -> Result<Cursor<'a>, usize>
         ensures { MatchResult result (λ d. Moves (mark (byte_of want) ∷ []) self.entry [] d) (λ q. Halts (mark (byte_of want) ∷ []) self.entry q) }
     {
-        match first_token(self.rest, self.place) {
+        match self.token() {
             Token::Sign(found, _) if found == want => Ok(self.after(1)),
             _ => Err(self.place),
         }
@@ -59,7 +67,7 @@ impl<'a> Cursor<'a> {
         requires { Title want.now }
         ensures { MatchResult result (λ d. Moves (exactly want.now) self.entry [] d) (λ q. Halts (exactly want.now) self.entry q) }
     {
-        match first_token(self.rest, self.place) {
+        match self.token() {
             Token::Word(word, at) => {
                 let same = common_front(word, want);
                 if same == want.len() {
@@ -76,7 +84,7 @@ impl<'a> Cursor<'a> {
     pub(crate) fn name(self) -> Result<(&'a [u8], Cursor<'a>), usize>
         ensures { MatchResult result (λ v. Moves (word a_name ∷ []) self.entry (v.0.now ∷ []) v.1) (λ q. Halts (word a_name ∷ []) self.entry q) }
     {
-        match first_token(self.rest, self.place) {
+        match self.token() {
             Token::Word(word, _) => Ok((word, self.after(word.len()))),
             _ => Err(self.place),
         }
@@ -86,7 +94,7 @@ impl<'a> Cursor<'a> {
     pub(crate) fn number(self) -> Result<(u32, Cursor<'a>), usize>
         ensures { MatchResult result (λ v. MovesBy (word a_number ∷ []) self.entry v.0 v.1) (λ q. Halts (word a_number ∷ []) self.entry q) }
     {
-        match first_token(self.rest, self.place) {
+        match self.token() {
             Token::Number(digits, _, value) => Ok((value, self.after(digits.len()))),
             _ => Err(self.place),
         }

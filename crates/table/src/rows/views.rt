@@ -29,6 +29,7 @@ impl Rows {
     }
 }
 
+// A table's readings say more than those of its rows: there is at least one.
 impl Table {
     /// The rows, to be taken over whole.
     pub fn rows(&self) -> Rows

@@ -37,4 +37,4 @@ returns-else-same-want c =
 pub returns-in_default : goal.returns-in_default
 returns-in_default c =
     let bs = c.args.self.rest.now in
-    no_keyword bs c.args.want.now c.args.self.place c.requires (no_word c.first_token.result bs c.first_token.ensures.value c.in_default.not-Word)
+    no_keyword bs c.args.want.now c.args.self.place c.requires (no_word c.token.result bs c.token.ensures.value c.in_default.not-Word)

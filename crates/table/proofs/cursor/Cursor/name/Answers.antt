@@ -17,4 +17,4 @@ returns-in-Word c =
     past_word_by a_name bs _ _ _ _ w.1 w.0 w.2 c.after.ensures.rest c.after.ensures.place
 
 pub returns-in_default : goal.returns-in_default
-returns-in_default c = stuck_word a_name _ _ (no_word c.first_token.result c.args.self.rest.now c.first_token.ensures.value c.in_default.not-Word)
+returns-in_default c = stuck_word a_name _ _ (no_word c.token.result c.args.self.rest.now c.token.ensures.value c.in_default.not-Word)

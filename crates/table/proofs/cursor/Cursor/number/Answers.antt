@@ -17,4 +17,4 @@ returns-in-Number c =
     (c.in-Number.digits.now, w.3, past_word_by a_number bs _ _ _ _ w.1 w.0 w.2 c.after.ensures.rest c.after.ensures.place, subst (λ v. 1 ≤ v) (sym w.3) (number_some bs c.in-Number.digits.now w.1 w.0))
 
 pub returns-in_default : goal.returns-in_default
-returns-in_default c = stuck_word a_number _ _ (no_number c.first_token.result c.args.self.rest.now c.first_token.ensures.value c.in_default.not-Number)
+returns-in_default c = stuck_word a_number _ _ (no_number c.token.result c.args.self.rest.now c.token.ensures.value c.in_default.not-Number)
