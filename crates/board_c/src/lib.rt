@@ -88,15 +88,14 @@ pub extern "C" fn bolzighes_calls(
         return TOO_FEW_PLACES;
     }
     let mut plan = Plan::empty();
-    if let Err(refusal) = plan.fill(text) {
-        return number(Err(refusal));
+    match plan.fill(text) {
+        // The alarm is a number, since it comes from C.
+        Ok(()) => match alarm {
+            0 => number(answer_over(plan, Counter::new(), warm, calls, answers)),
+            1 => number(answer_over(plan, Divider::new(), warm, calls, answers)),
+            2 => number(answer_over(plan, TopUp::new(Divider::new()), warm, calls, answers)),
+            _ => NO_SUCH_ALARM,
+        },
+        Err(refusal) => number(Err(refusal)),
     }
-    // The alarm is a number, since it comes from C.
-    let made = match alarm {
-        0 => answer_over(plan, Counter::new(), warm, calls, answers),
-        1 => answer_over(plan, Divider::new(), warm, calls, answers),
-        2 => answer_over(plan, TopUp::new(Divider::new()), warm, calls, answers),
-        _ => return NO_SUCH_ALARM,
-    };
-    number(made)
 }
