@@ -18,6 +18,7 @@ pub extern "C" fn bolzighes_check(text: &[u8]) -> u32
     ensures checks { Checks text.now result }
 {
     let mut plan = Plan::empty();
+    // A number, since it goes to C.
     match plan.fill(text) {
         Ok(()) => 0,
         Err(refusal) => refusal.record().number,

@@ -58,6 +58,7 @@ pub(crate) fn read_calls(rt: &HostRuntime, text: &[u8], lines: &str) -> anyhow::
         }
         match call_in(text, line) {
             Some((call, times)) => {
+                // A count and no index, and `repeat_n` would want it as a usize.
                 for _ in 0..times {
                     calls.push(call)?;
                 }
