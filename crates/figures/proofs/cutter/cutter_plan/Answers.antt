@@ -1,4 +1,4 @@
-use Rattle.std.proofs.Common.{Ok, subst}
+use Rattle.std.proofs.Common.{subst}
 use Rattle.figures.specs.Figures.{cutter_text}
 use Rattle.planner.specs.Texts.{Filled}
 use Rattle.figures.proofs.Calls.{cutter_filled, cutter_unrefused}
