@@ -2,11 +2,8 @@
 use Rattle.std.proofs.Common.{vec_items}
 use Rattle.std.proofs.lemmas.List.{take_more, take_all}
 use Rattle.rules.specs.declared.calls.Call.TheVariants.{Release}
-use Rattle.board.proofs.Making.{acting_none, acting_more, replays}
+use Rattle.board.proofs.Making.{acting_more, replays}
 use Rattle.board.proofs.replay.replay.Goals as goal
-
-pub loop-call-init : goal.loop-call-init
-loop-call-init g c = acting_none g.T.Alarm c.new-board.result (vec_items c.new-answers.result) c.new-answers.ensures.items
 
 pub loop-call-preserved : goal.loop-call-preserved
 loop-call-preserved g c =
