@@ -10,21 +10,6 @@ pub loop-task-init : goal.loop-task-init
 unfolding sum_to
 loop-task-init c = (refl, omega arith)
 
-pub overflow_mul-sum : goal.overflow_mul-sum
-overflow_mul-sum c =
-    let told = c.tasks-tasks.ensures in
-    let row = c.loop-task.task-index in
-    omega (arith, row_load_le (task_at c.tasks-tasks.result.now row) c.common-period.result (told.whole row (omega arith)), c.common-period.ensures.bound)
-
-pub nonzero_div-sum : goal.nonzero_div-sum
-nonzero_div-sum c = omega (arith, c.tasks-tasks.ensures.whole c.loop-task.task-index (omega arith))
-
-pub overflow_add-sum : goal.overflow_add-sum
-overflow_add-sum c =
-    let told = c.tasks-tasks.ensures in
-    let row = c.loop-task.task-index in
-    omega (arith, row_load_le (task_at c.tasks-tasks.result.now row) c.common-period.result (told.whole row (omega arith)), c.common-period.ensures.bound, told.bound.1)
-
 pub loop-task-preserved : goal.loop-task-preserved
 unfolding sum_to
 loop-task-preserved c =

@@ -1,17 +1,12 @@
 -- Row by row, the first point of each is taken into the queue.
-use Rattle.std.proofs.Common.{◌≡◌, ◌+◌, length, take, sym, refl, ap, subst, arith}
-use Rattle.queue.specs.Queue.{Queue}
+use Rattle.std.proofs.Common.{◌≡◌, ◌+◌, take, sym, refl, ap, subst, arith}
 use Rattle.table.specs.Tasks.{task_at}
 use Rattle.planner.specs.declared.point.Point.{Point}
-use Rattle.planner.specs.Points.{sooner}
-use Rattle.planner.proofs.Steps.{Partly, partly_none, partly_more, partly_all}
+use Rattle.planner.proofs.Steps.{Partly, partly_none, partly_more}
 use Rattle.planner.proofs.walk.Walk.new.Goals as goal
 
 pub loop-task-init : goal.loop-task-init
 loop-task-init c = (refl, refl, (omega arith, λ k d h. absurd (omega arith)), partly_none _)
-
-pub overflow_cast-first : goal.overflow_cast-first
-overflow_cast-first c = omega (arith, c.tasks-tasks.ensures.bound.1)
 
 pub loop-task-preserved : goal.loop-task-preserved
 loop-task-preserved c =
@@ -29,17 +24,3 @@ loop-task-preserved c =
       subst (Partly tasks (take c.unwrap-held.result heap)) (sym more)
           (partly_more tasks (take row l.points) (take c.unwrap-held.result heap) p told.whole l.invariant.3 (omega arith) (ap (λ n. (task_at tasks n).due) (sym l.invariant.1)) into.held),
     )
-
-pub invariant_of-result : goal.invariant_of-result
-invariant_of-result c =
-    let told = c.tasks-tasks.ensures in
-    let tasks = c.tasks-tasks.result.now in
-    let l = c.loop-task in
-    let e : l.held ≡ length tasks = omega arith in
-    record {
-      readable = record { some = told.bound.0; few = told.bound.1; whole = told.whole; bounded = told.bounded };
-      stands = record {
-        queue = subst (Queue sooner l.points) e l.invariant.2;
-        standing = partly_all tasks (take (length tasks) l.points) (length tasks) (subst (λ n. Partly tasks (take n l.points) n) e l.invariant.3) refl;
-      };
-    }
