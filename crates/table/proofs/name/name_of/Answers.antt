@@ -3,14 +3,9 @@ use Rattle.std.proofs.lemmas.Result.{MatchResult-at_ok, MatchResult-at_err}
 use Rattle.table.specs.Names.{Named}
 use Rattle.table.specs.Readings.{Reads}
 use Rattle.table.proofs.Mapped.{ok_some, ok_none}
-use Rattle.table.proofs.Naming.{table_rows, below, at_most, less, met, first_not_stuck, first_passed, row_not_stuck, row_passed, row_named}
+use Rattle.table.proofs.Naming.{table_rows, below, less, met, first_not_stuck, first_passed, row_not_stuck, row_passed, row_named}
 use Rattle.table.proofs.Starts.{first_moves, first_halts}
 use Rattle.table.proofs.name.name_of.Goals as goal
-
-pub returns-then-row-rows : goal.returns-then-row-rows
-returns-then-row-rows c rows a =
-    let table = ok_some c.read.result c.ok.result c.in_ok-ok.field-0 c.ok.ensures.value c.in_ok-ok.was in
-    at_most c.args.row (length c.tasks-rows.result.now) (length rows) c.if-row-rows.true (table_rows c.args.text.now c.read.result c.in_ok-ok.field-0 c.tasks-rows.result.now c.read.ensures table c.tasks-rows.ensures.value rows a)
 
 pub returns-in_err-at : goal.returns-in_err-at
 returns-in_err-at c =

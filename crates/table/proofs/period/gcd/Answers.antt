@@ -1,9 +1,6 @@
 use Rattle.std.proofs.Common.{arith}
-use Rattle.table.proofs.Divisors.{euclid_none, euclid_more, euclid_all}
+use Rattle.table.proofs.Divisors.{euclid_more, euclid_all}
 use Rattle.table.proofs.period.gcd.Goals as goal
-
-pub loop-low-init : goal.loop-low-init
-loop-low-init c = euclid_none _ _ (omega arith)
 
 pub loop-low-preserved : goal.loop-low-preserved
 loop-low-preserved c = euclid_more _ _ _ _ c.loop-low.invariant (omega arith)

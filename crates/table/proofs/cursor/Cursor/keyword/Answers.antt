@@ -1,21 +1,7 @@
 use Rattle.std.proofs.Common.{◌<◌, length, ◌∙◌, arith}
-use Rattle.table.specs.Lines.{a_name}
-use Rattle.table.proofs.Along.{word_within}
 use Rattle.table.proofs.Keywords.{shared_front, no_keyword, past_exactly_by, stuck_exactly_by}
 use Rattle.table.proofs.Words.{word_token, no_word}
 use Rattle.table.proofs.cursor.Cursor.keyword.Goals as goal
-
-pub after-requires : goal.after-requires
-after-requires c =
-    let bs = c.args.self.rest.now in
-    let w = word_token bs c.in-Word.word.now c.in-Word.ensures.value in
-    omega (arith, w.2, word_within a_name bs, c.common_front-same.ensures.bound.0)
-
-pub overflow_add-result : goal.overflow_add-result
-overflow_add-result c =
-    let bs = c.args.self.rest.now in
-    let w = word_token bs c.in-Word.word.now c.in-Word.ensures.value in
-    omega (arith, w.2, word_within a_name bs, c.common_front-same.ensures.bound.0, c.in-Word.ensures.place, c.args.self.room)
 
 pub returns-then-same-want : goal.returns-then-same-want
 returns-then-same-want c =

@@ -27,14 +27,3 @@ invariant_of-self c =
       multiple = subst (λ xs. Common xs m) e (common_push ts t d.common m d.multiple is);
       least = subst (λ (xs : List Task). (x : ℕ) → Common xs x → m ∣ x) e (least_push ts t d.common m d.least is);
     }
-
-pub returns : goal.returns
-returns c =
-    let d = c.args.self.now in
-    let size : length (take d.count d.list) ≡ d.count = length-take-le d.count d.list (omega arith) in
-    let fits : d.count < length d.list = omega (arith, c.requires.room) in
-    record {
-      within = omega (arith, c.least_multiple-common.ensures.value, c.if-common-gt-MOST_COMMON.false);
-      tasks = stored d.list d.count c.args.task fits;
-      common = c.least_multiple-common.ensures.value;
-    }
