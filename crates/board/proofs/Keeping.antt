@@ -154,16 +154,6 @@ serves who c m d g a s settled =
       settled = subst (λ x. Settled x d) a.mode settled;
     }
 
-pub serves_by : (who whom : Option ℕ) (c m n d : Core) → who ≡ whom → m ≡ n → Gives whom c n → Advances c n → Same m d → Settled m.mode d → Serves c who d
-serves_by who whom c m n d p q g a s settled =
-    serves who c m d (subst (λ x. Gives x c m) (sym p) (subst (Gives whom c) (sym q) g)) (subst (Advances c) (sym q) a) s settled
-
--- with no job open, only the clock moves on
-pub serves_none : (who : Option ℕ) (c m n d : Core) → who ≡ None → m ≡ n → n.plan ≡ c.plan → n.now ≡ c.now + 1 → n.ran ≡ c.ran → n.slept ≡ c.slept
-    → n.mode ≡ c.mode → n.jobs.slots ≡ c.jobs.slots → Idle c.jobs.slots → Same m d → Settled m.mode d → Serves c who d
-serves_none who c m n d p q plan now ran slept mode slots i s settled =
-    serves_by who None c m n d p q (rests c n plan ran slots i) (record { plan = plan; now = now; slept = slept; mode = mode }) s settled
-
 -- a ring wakes the board after the tick that it slept through
 pub rung : (rang : Bool) (c d e : Core) → Dozes c false d → Same d e → e.mode ≡ mode_after rang → Dozes c rang e
 rung rang c d e z same mode =

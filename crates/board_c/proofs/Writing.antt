@@ -11,7 +11,7 @@ use Rattle.rules.specs.declared.calls.Answer.{Answer}
 use Rattle.rules.specs.Promises.{Promised}
 use Rattle.board.specs.declared.board.Board.{Board}
 use Rattle.board.specs.Boards.{view_of, rules_of, Does, Built}
-use Rattle.board.proofs.Making.{Acting, acting_none, acting_more, replays}
+use Rattle.board.proofs.Making.{Acting, acting_more, replays}
 use Rattle.board_c.specs.declared.record.AnswerRecord.{AnswerRecord}
 use Rattle.board_c.specs.Codes.{decoded, encoded}
 use Rattle.board_c.specs.Called.{Answered}
@@ -35,15 +35,6 @@ module _ {X : Type 0} (alarm : Ghosts X) where
     pub acting : Acting alarm b (map decoded (take i codes)) answers d
     pub written : take i after ≡ map encoded answers
     pub rest : drop i after ≡ drop i before
-
-  pub answering_none : (b : Board X) (codes : List ℕ) (before : List AnswerRecord) → Answering b 0 codes before before b
-  answering_none b codes before =
-      record {
-        answers = [];
-        acting = acting_none alarm b [] refl;
-        written = refl;
-        rest = refl;
-      }
 
   pub answering_more : (b u d : Board X) (i : ℕ) (codes : List ℕ) (before after : List AnswerRecord) (call : Call) (answer : Result Answer Refusal) (y : AnswerRecord)
       → i < length codes → i < length after → Answering b i codes before after u → call ≡ decoded (get_or codes i 0) → Does alarm u call answer d → y ≡ encoded answer

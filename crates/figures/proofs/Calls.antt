@@ -1,6 +1,6 @@
 -- From the cutter's text to its board: the text is read as the cutter's tasks, which are accepted, so the plan is theirs, and
 -- there is one list of sleeps; the calls on its board are a run of the rules with that plan, of which the figures speak.
-use Rattle.std.proofs.Common.{◌≡◌, ℕ, List, [], ◌∷◌, length, Some, Ok, IsOk, Result, sym, refl, ap, ◌∙◌, subst}
+use Rattle.std.proofs.Common.{◌≡◌, ℕ, List, length, Ok, IsOk, Result, sym, ap, ◌∙◌, subst}
 use Rattle.refusal.specs.declared.cases.Refusal.{Refusal}
 use Rattle.table.specs.declared.task.Task.{Task}
 use Rattle.table.specs.Tasks.{LeastCommon}
@@ -11,18 +11,14 @@ use Rattle.planner.specs.Texts.{Filled}
 use Rattle.planner.specs.Verdict.{Judged}
 use Rattle.planner.proofs.Computing.{computed_made}
 use Rattle.alarm.specs.Counting.{counter_reach}
-use Rattle.rules.specs.declared.calls.Call.TheVariants.{Release, Tick}
 use Rattle.rules.specs.Views.{View, Rules, fresh}
-use Rattle.rules.specs.Steps.{Entry, Step, Runs}
-use Rattle.rules.specs.Logs.{call_of}
+use Rattle.rules.specs.Steps.{Entry, Runs}
 use Rattle.board.specs.Cores.{rules_for}
 use Rattle.figures.specs.Figures.{cutter, cutter_text, sleeps_of_cutter}
 use Rattle.figures.specs.Premises.{cutter_rules}
-use Rattle.figures.specs.Sleeping.{fit_all, hushed_all, end_of, leads}
 use Rattle.figures.specs.Tables.{Quoted}
 use Rattle.figures.specs.Texts.{Typed}
 use Rattle.figures.proofs.Cases.{cutter_quoted, cutter_typed, cutter_whole}
-use Rattle.figures.proofs.Sleeping.{leads_so}
 
 cutter_judged : {A : Type 0} (answer : Result A Refusal) (plan : Plan) → Filled cutter_text answer plan → Judged cutter 112 answer plan
 cutter_judged answer plan f =
@@ -56,17 +52,3 @@ module _ (plan : Plan) (tasks : planned plan ≡ cutter) (sleeps : sleeps_of pla
   start log w k =
       subst (λ x. Runs cutter_rules x log w) (new ∙ ap (λ (ts : List Task). fresh (length ts)) tasks)
       (subst (λ x. Runs x u log w) (same_rules plan P tasks sleeps rules) k)
-
-  pub six_left : (v : View) (d : Entry) → call_of d ≡ Release 2 → Step P u d v → v.alarm ≡ Some 6
-  unfolding leads fit_all hushed_all end_of
-  six_left v d a k =
-      ((leads_so cutter sleeps_of_cutter counter_reach (Release 2 ∷ []) 6 refl).always (d ∷ []) v (start (d ∷ []) v (v, k, refl)) (ap (λ c. c ∷ []) a)).1
-
-  pub four_left : (Q S : Rules) (v w x : View) (d e f : Entry) → Q ≡ P → S ≡ Q → call_of d ≡ Release 2 → call_of e ≡ Tick → call_of f ≡ Release 0
-      → Step P u d v → Step Q v e w → Step S w f x → x.alarm ≡ Some 4
-  unfolding leads fit_all hushed_all end_of
-  four_left Q S v w x d e f q s a b c k l m =
-      let l₂ : Step P v e w = subst (λ (R : Rules). Step R v e w) q l in
-      let m₂ : Step P w f x = subst (λ (R : Rules). Step R w f x) (s ∙ q) m in
-      ((leads_so cutter sleeps_of_cutter counter_reach (Release 2 ∷ Tick ∷ Release 0 ∷ []) 4 refl).always (d ∷ e ∷ f ∷ []) x
-      (start (d ∷ e ∷ f ∷ []) x (v, k, (w, l₂, (x, m₂, refl)))) (cc (a, b, c))).1

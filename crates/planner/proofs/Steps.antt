@@ -1,6 +1,6 @@
 -- How a walk goes on. A row's point, once taken, waits again a gap on, with one run more behind it; from one point to the
 -- next the need stays. That the points hold each row once is told by sums: a sum over the points is one over the rows.
-use Rattle.std.proofs.Common.{◌≡◌, ℕ, ◌+◌, ◌-◌, ◌*◌, ◌/◌, ◌<◌, ◌≤◌, false, ◌⊎◌, List, [], ◌∷◌, length, get_or, take, sum_by, sym, refl, ap, ◌∙◌, subst, inl, inr, mul-one, add-one, arith}
+use Rattle.std.proofs.Common.{◌≡◌, ℕ, ◌+◌, ◌-◌, ◌*◌, ◌/◌, ◌<◌, ◌≤◌, ◌⊎◌, List, [], ◌∷◌, length, get_or, take, sum_by, sym, refl, ap, ◌∙◌, subst, inl, inr, mul-one, add-one, arith}
 use native.Mathlib.Nat.{mod_self, div_self, div-eq_of_lt}
 use Rattle.std.proofs.lemmas.Bool.{cases_eq}
 use Rattle.std.specs.List.Sorted.{IsPermutation}
@@ -9,7 +9,6 @@ use Rattle.std.proofs.ByRecursion.{All-weaker, All-get_or, sum_by_le, all_shuffl
 use Rattle.std.proofs.lemmas.List.{length-take-le, get_or-take, get_or_default}
 use Rattle.std.proofs.lemmas.List.Sums.{sum_by-cons}
 use Rattle.std.proofs.lemmas.List.Sorted.{sum_by-IsPermutation}
-use Rattle.std.proofs.lemmas.Bool.Decides.{nat_tests}
 use Rattle.table.specs.declared.task.Task.{Task}
 use Rattle.planner.specs.declared.point.Point.{Point}
 use Rattle.planner.specs.Points.{sooner}
@@ -110,9 +109,6 @@ pub fewer : (tasks : List Task) (ps qs : List Point) (p : Point) → AllWhole ta
 fewer tasks ps qs p whole w sh =
     let q : Point = record { time = p.time + (task_at tasks p.row).gap; row = p.row } in
     omega (arith, moved (λ y. p.time + 1 - y.time) ps qs p q sh, whole p.row w.inside)
-
-pub later_time : (x y : Point) → sooner y x ≡ false → x.time ≤ y.time
-later_time x y e = grind (arith, nat_tests)
 
 -- what was asked for is small, as a row alone asks for no more than the time that passes
 pub asked_small : (tasks : List Task) (ps : List Point) (now total : ℕ) → AllWhole tasks → Bounded tasks → Standing tasks ps now total
@@ -221,6 +217,3 @@ partly_more tasks ps qs p whole s i e sh =
       waits = all_shuffled (Waits tasks 1) (p ∷ ps) qs sh (w, s.waits);
       asked = omega (arith, sum_by-IsPermutation f (p ∷ ps) qs sh, sum_by-cons f p ps, s.asked, none);
     }
-
-pub partly_all : (tasks : List Task) (ps : List Point) (k : ℕ) → Partly tasks ps k → k ≡ length tasks → Standing tasks ps 1 0
-partly_all tasks ps k s e = record { once = λ f. s.once f ∙ ap (λ n. sum_to n f) e; waits = s.waits; asked = s.asked }

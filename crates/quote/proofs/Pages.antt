@@ -8,11 +8,6 @@ use Rattle.quote.specs.Printed.{sleep_text, sleep_texts, names_in_reading, names
 use Rattle.table.proofs.Decides.{decided}
 use Rattle.table.proofs.Follows.{accepts_verdict, refuses_verdict}
 
-pub three_parts : (page a b d one two all rest : List ℕ) → one ≡ page ++ a → two ≡ one ++ b → all ≡ two ++ rest → rest ≡ d
-    → all ≡ page ++ (a ++ (b ++ d))
-three_parts page a b d one two all rest p q r s =
-    r ∙ ap (λ xs. xs ++ rest) (q ∙ ap (λ xs. xs ++ b) p) ∙ ap (λ xs. ((page ++ a) ++ b) ++ xs) s ∙ append_assoc (page ++ a) b d ∙ append_assoc page a (b ++ d)
-
 nth_there : (xs : List (List ℕ)) (i : ℕ) → i < length xs → Some (get_or xs i []) ≡ slice_get xs i
 nth_there [] i h = absurd (omega arith)
 nth_there (x ∷ xs) zero h = refl

@@ -95,9 +95,3 @@ past_word_by k bs p w rest q some is size left at =
     let end : q ≡ p + word_size k bs = at ∙ ap (λ n. p + n) size in
     let gone : rest ≡ drop (word_size k bs) bs = left ∙ ap (λ n. drop n bs) size in
     rw (end, gone, is) (past_word k bs p some)
-
-pub stuck_word : (k : Class) (bs : List ℕ) (p : ℕ) → word_size k bs ≡ 0 → Stuck (word k ∷ []) bs p p
-stuck_word k [] p none = record { reach = λ more. add-zero p; fit = λ more. refl }
-stuck_word k (b ∷ bs) p none =
-    let is = word_not_first k b bs none in
-    record { reach = λ more. rw is (add-zero p); fit = λ more. rw is refl }

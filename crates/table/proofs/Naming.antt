@@ -23,9 +23,6 @@ table_rows text r table ts reads is e rows a = let told : Reads text (Ok table) 
 pub below : (i row m n : ℕ) → i < row → row < m → m ≡ n → i < n
 below i row m n h k e = omega arith
 
-pub at_most : (row m n : ℕ) → m ≤ row → m ≡ n → n ≤ row
-at_most row m n h e = omega arith
-
 pub less : (row m n : ℕ) → row < m → m ≡ n → row < n
 less row m n h e = omega arith
 

@@ -156,13 +156,6 @@ no_word (Sign m q) bs h other = none_or (word_size a_name bs) (λ some. let e = 
 no_word (Other q) bs h other = none_or (word_size a_name bs) (λ some. let e = (some_word bs some).1 in let z : ◌≡◌ {A = ℕ} 0 1 = cc in omega arith)
 no_word (End q) bs h other = none_or (word_size a_name bs) (λ some. let e = (some_word bs some).1 in let z : ◌≡◌ {A = ℕ} 0 1 = cc in omega arith)
 
-pub no_number : (t : Token) (bs : List ℕ) → lexeme_of t ≡ lexeme bs → ((d : Bor (List ℕ)) (q v : ℕ) → t ≡ Number d q v → ⊥) → word_size a_number bs ≡ 0
-no_number (Word w q) bs h other = none_or (word_size a_number bs) (λ some. let e = (some_number bs some).1 in let z : ◌≡◌ {A = ℕ} 0 1 = cc in omega arith)
-no_number (Number d q v) bs h other = absurd (other d q v refl)
-no_number (Sign m q) bs h other = none_or (word_size a_number bs) (λ some. let e = (some_number bs some).1 in let z : ◌≡◌ {A = ℕ} 0 1 = cc in omega arith)
-no_number (Other q) bs h other = none_or (word_size a_number bs) (λ some. let e = (some_number bs some).1 in let z : ◌≡◌ {A = ℕ} 0 1 = cc in omega arith)
-no_number (End q) bs h other = none_or (word_size a_number bs) (λ some. let e = (some_number bs some).1 in let z : ◌≡◌ {A = ℕ} 0 1 = cc in omega arith)
-
 pub no_mark : (t : Token) (bs : List ℕ) (want : Mark) → lexeme_of t ≡ lexeme bs → ((q : ℕ) → t ≡ Sign want q → ⊥) → 0 < length bs → get_or bs 0 0 ≡ byte_of want → ⊥
 no_mark (Word w q) bs want h other some is = let e = some_mark want bs some is in let z : ◌≡◌ {A = ℕ} 0 1 = cc in omega arith
 no_mark (Number d q v) bs want h other some is = let e = some_mark want bs some is in let z : ◌≡◌ {A = ℕ} 0 1 = cc in omega arith
