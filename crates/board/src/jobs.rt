@@ -16,7 +16,8 @@ pub struct KnownRow {
     ghost in_range: { row < 64 },
 }
 
-// The turns are an array with the number held beside it: the queue works on a lent slice, and needs the free place past its own.
+// Arrays of 64, since the board has no heap: one slot a row, of which a call changes one. The turns have the number held beside
+// them, since the queue works on a lent slice, and needs the free place past its own.
 /// The slots, and the turns of the jobs that are open in them, the first `held` of the array.
 #[derive(Drop)]
 pub struct Jobs {

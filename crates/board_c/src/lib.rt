@@ -30,6 +30,7 @@ const NO_SUCH_ALARM: u32 = 100;
 /// What is answered where there are more calls than places for answers.
 const TOO_FEW_PLACES: u32 = 101;
 
+// Calls and answers stay two lists, as C lends them.
 /// Makes the calls on a new board, and writes what each answered.
 fn answer_all<T: Alarm + Drop>(plan: Plan, alarm: T, calls: &[u64], answers: &mut [AnswerRecord])
     requires { length calls.now ≤ length answers.now }
@@ -88,6 +89,7 @@ pub extern "C" fn bolzighes_calls(
         return TOO_FEW_PLACES;
     }
     let mut plan = Plan::empty();
+    // Numbers come out of each arm, since they go to C.
     match plan.fill(text) {
         // The alarm is a number, since it comes from C.
         Ok(()) => match alarm {

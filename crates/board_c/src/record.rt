@@ -1,5 +1,6 @@
 //! An answer as it crosses to C.
 
+// Flags and zeros and no options: C reads it.
 /// What is told of an answer. A field that its kind does not name is 0.
 #[repr(C)]
 #[derive(Clone, Copy, Default)]

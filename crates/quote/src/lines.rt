@@ -6,6 +6,7 @@ ghost use Rattle.quote.specs.Printed.{plan_text, sleep_text, shortest_text};
 use planner::plan::Plan;
 use std::alloc::{AllocError, Global};
 
+// Functions and no `Display`: a page's lines carry their bytes in their contracts.
 /// The first line: how many rows there are, their load and their common period.
 pub fn plan_line(heap: Global, plan: &Plan) -> Result<String, AllocError>
     ensures { IfOk result (λ s. string_bytes s ≡ plan_text (length (planned plan.now)) (load_of plan.now) (period_of plan.now)) }

@@ -3,6 +3,7 @@ use refusal::cases::Refusal;
 use rules::calls::{Answer, Call, Status};
 use rules::slots::Job;
 
+// This program's own lines, some of two, and no `Display` of a status.
 fn show_status(rt: &HostRuntime, status: Status) -> anyhow::Result<()> {
     let Status {
         now,

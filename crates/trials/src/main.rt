@@ -47,10 +47,10 @@ fn tell_others(rt: &HostRuntime) -> anyhow::Result<()> {
 }
 
 fn run(rt: &HostRuntime) -> anyhow::Result<()> {
-    show_all(rt, &typed::FIGURES)?;
-    show_all(rt, &typed::ROWS)?;
-    show_all(rt, &typed::FORMS)?;
-    show_all(rt, &typed::EDGES)?;
+    show_all(rt, typed::FIGURES)?;
+    show_all(rt, typed::ROWS)?;
+    show_all(rt, typed::FORMS)?;
+    show_all(rt, typed::EDGES)?;
     made::sizes(rt)?;
     made::counts(rt)?;
     tell_others(rt)

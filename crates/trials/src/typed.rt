@@ -4,7 +4,7 @@
 pub(crate) type Labelled = (&'static str, &'static [u8]);
 
 /// The worked tables, and the limits of a gap and of the common period.
-pub(crate) const FIGURES: [Labelled; 9] = [
+pub(crate) const FIGURES: &[Labelled] = &[
     (
         "cutter",
         b"(table 3)\n(task head (run 8) (due 16) (gap 16))\n(task lens (run 12) (due 28) (gap 28))\n(task fan (run 1) (due 56) (gap 56))\n",
@@ -44,7 +44,7 @@ pub(crate) const FIGURES: [Labelled; 9] = [
 ];
 
 /// The checks of rows, and which of two comes first.
-pub(crate) const ROWS: [Labelled; 8] = [
+pub(crate) const ROWS: &[Labelled] = &[
     (
         "run above due",
         b"(table 1)\n(task a (run 3) (due 2) (gap 4))\n",
@@ -80,7 +80,7 @@ pub(crate) const ROWS: [Labelled; 8] = [
 ];
 
 /// Lines that have not their form.
-pub(crate) const FORMS: [Labelled; 15] = [
+pub(crate) const FORMS: &[Labelled] = &[
     ("no bracket", b"table 1\n"),
     (
         "another keyword",
@@ -123,7 +123,7 @@ pub(crate) const FORMS: [Labelled; 15] = [
 ];
 
 /// Spaces, line ends and the end of the text.
-pub(crate) const EDGES: [Labelled; 10] = [
+pub(crate) const EDGES: &[Labelled] = &[
     ("empty", b""),
     (
         "two spaces",
