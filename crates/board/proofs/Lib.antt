@@ -1,3 +1,4 @@
+pub mod Ordered
 pub mod Queueing
 pub mod Fronts
 pub mod Keeping

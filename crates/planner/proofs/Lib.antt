@@ -1,3 +1,4 @@
+pub mod Ordered
 pub mod Sums
 pub mod Demand
 pub mod Repeats

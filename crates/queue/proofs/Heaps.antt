@@ -1,7 +1,7 @@
 -- An element rises and sinks in a heap, and the top of a heap is its least element.
 use Rattle.std.proofs.Common.{◌≡◌, ℕ, zero, suc, ◌+◌, ◌-◌, ◌*◌, ◌/◌, ◌<◌, ◌≤◌, Bool, true, false, List, length, get_or, refl, ap, ◌∙◌, ⊎_elim, arith}
 use Rattle.std.proofs.lemmas.Bool.{cases_eq}
-use Rattle.queue.specs.Order.{Linear}
+use Rattle.queue.specs.Order.{Ranked}
 use Rattle.queue.specs.Queue.{Heaped}
 use Rattle.queue.specs.Sift.{Gap, Hole, Foremost}
 
@@ -26,7 +26,7 @@ module _ {X : Type 0} (before : X → X → Bool) where
   pub paired : (xs : List X) → Heaped before xs → Paired xs
   paired xs h = λ p k d a b f. by _ _ _ _ (at_place xs d k (k - 1 + 1) (omega arith)) (at_place xs d p ((k - 1) / 2) (omega arith)) (h (k - 1) d (omega arith))
 
-  module _ (o : Linear before) where
+  module _ (o : Ranked before) where
     itself_by : (x : X) (b : Bool) → before x x ≡ b → before x x ≡ false
     itself_by x true e = o.one_way x x e
     itself_by x false e = e

@@ -10,7 +10,7 @@ use Rattle.std.proofs.lemmas.List.Sorted.{IsPermutation-sym, IsPermutation-trans
 use Rattle.std.specs.List.{ContainsAt, position_or_len}
 use Rattle.std.proofs.lemmas.Grind.{common_steps}
 use Rattle.std.proofs.ByRecursion.{All-from_get_or, has_get_or}
-use Rattle.queue.specs.Order.{Linear}
+use Rattle.queue.specs.Order.{Ranked}
 use Rattle.queue.specs.Queue.{Heaped, Least, First, Left, Vacant}
 use Rattle.queue.specs.Sift.{Gap, TakenOut}
 use Rattle.queue.proofs.Heaps.{by, paired, top}
@@ -21,7 +21,7 @@ module _ {X : Type 0} where
       let a : length (take n xs) ≡ n = length-take-le n xs l in
       subst (ContainsAt (take n xs)) (get_or-take n xs i x b ∙ sym e) (has_get_or (take n xs) i x (omega arith))
 
-module _ {X : Type 0} (before : X → X → Bool) (o : Linear before) where
+module _ {X : Type 0} (before : X → X → Bool) (o : Ranked before) where
   -- all but the element at j are those of a heap
   opened : (xs zs : List X) (j : ℕ) → ((k : ℕ) (d : X) → (k ≡ j → ⊥) → k < length zs → get_or zs k d ≡ get_or xs k d) → ((k : ℕ) → (k ≡ j → ⊥) → k < length zs → k < length xs) → Heaped before xs → Gap before zs j
   opened xs zs j same in' heap = let h = paired before xs heap in (

@@ -9,7 +9,9 @@
 --   Removed     x went out, or one that `same` takes for it
 --   Replaced    x was taken in for y
 --   Vacant      there is no smallest element to be had
---   Absent      there is no x to be taken out, nor one that `same` takes for it
+--   Alone       `same` takes x for nothing but itself
+--   NoneAlike   nothing that `same` takes for x is to be taken out
+--   Absent      there is no x to be taken out
 use Rattle.std.specs.Prelude.{◌≡◌, ℕ, ◌+◌, ◌/◌, ◌<◌, ◌≤◌, Bool, true, false, ◌⊎◌, List, ◌∷◌, length, take, drop, slice_index_or}
 use Rattle.std.specs.List.Sorted.{IsPermutation}
 use Rattle.std.specs.List.{ContainsAt, AllByRecursion}
@@ -49,7 +51,7 @@ module _ {X : Type 0} (before : X → X → Bool) where
     pub queue : Queue ws m → Queue xs n
     pub rest : drop m xs ≡ drop m ws
 
-  -- where only x itself is the same as x, that is Left
+  -- where x is Alone, that is Left
   abbrev pub Removed : (X → X → Bool) → X → List X → ℕ → List X → ℕ → Type 0
   Removed same x ws m xs n = (y : X) × (same y x ≡ true) × Left y ws m xs n
 
@@ -63,6 +65,14 @@ module _ {X : Type 0} (before : X → X → Bool) where
 abbrev pub Vacant : {X : Type 0} → List X → ℕ → Type 0
 Vacant xs n = (n ≡ 0) ⊎ (length xs < n)
 
+-- only x itself is the same as x
+abbrev pub Alone : {X : Type 0} → (X → X → Bool) → X → Type 0
+Alone {X} same x = (y : X) → same y x ≡ true → y ≡ x
+
 -- nothing that is the same as x is held, or more is held than the slice has places for
-abbrev pub Absent : {X : Type 0} → (X → X → Bool) → X → List X → ℕ → Type 0
-Absent {X} same x xs n = (length xs < n) ⊎ ((y : X) → same y x ≡ true → ContainsAt (take n xs) y → ⊥)
+abbrev pub NoneAlike : {X : Type 0} → (X → X → Bool) → X → List X → ℕ → Type 0
+NoneAlike {X} same x xs n = (length xs < n) ⊎ ((y : X) → same y x ≡ true → ContainsAt (take n xs) y → ⊥)
+
+-- x is not held, or more is held than the slice has places for
+abbrev pub Absent : {X : Type 0} → X → List X → ℕ → Type 0
+Absent x xs n = (length xs < n) ⊎ (ContainsAt (take n xs) x → ⊥)

@@ -10,7 +10,7 @@
 
 ghost use Rattle.std.specs.Prelude.{◌≡◌, ◌+◌, ◌-◌, ◌<◌, ◌≤◌, length, position, MatchOption, MatchResult};
 ghost use Rattle.queue.specs.Order.{before};
-ghost use Rattle.queue.specs.Queue.{First, Entered, Left, Removed, Replaced, Vacant, Absent};
+ghost use Rattle.queue.specs.Queue.{First, Entered, Left, Removed, Replaced, Vacant, Alone, NoneAlike, Absent};
 
 use crate::sift::{settle, take_out};
 
@@ -62,9 +62,11 @@ pub fn replace_first<T: Ord + Copy>(heap: &mut [T], len: usize, x: T) -> Result<
     Ok(first)
 }
 
-/// Takes an element that is equal to `x` out, wherever it is, and says how many stay. A queue that holds none gives none.
+/// Takes `x` out, wherever it is, and says how many stay: `x` itself (`exact`) where nothing else is equal to it, else an
+/// element that is. A queue that holds none gives none.
 pub fn remove<T: Ord + Copy>(heap: &mut [T], len: usize, x: T) -> Option<usize>
-    ensures { MatchOption result (Absent T.eq x heap.old len × (heap.new ≡ heap.old)) (λ n. Removed (before T.cmp) T.eq x heap.old len heap.new n) }
+    ensures equal { MatchOption result (NoneAlike T.eq x heap.old len × (heap.new ≡ heap.old)) (λ n. Removed (before T.cmp) T.eq x heap.old len heap.new n) }
+    ensures exact { Alone T.eq x → MatchOption result (Absent x heap.old len × (heap.new ≡ heap.old)) (λ n. Left (before T.cmp) x heap.old len heap.new n) }
 {
     let at = position(heap.get(..len)?, x)?;
     let _ = take_out(&mut heap[..len], at)?;

@@ -1,9 +1,11 @@
 //! What is done to the slots, each time to one of them, and to the queue with it.
 ghost use Rattle.std.specs.Prelude.{◌≡◌, ℕ, ◌<◌, ◌≤◌, length, replicate, Some, None, MatchBool, slice_set};
+ghost use Rattle.queue.specs.Order.{Linear};
 ghost use Rattle.rules.specs.declared.slots.Job.{Job};
 ghost use Rattle.rules.specs.Steps.{Idle, Busy};
 ghost use Rattle.rules.specs.Views.{empty, slot_at, job_at, opened, closed, fed};
 ghost use Rattle.board.specs.Jobs.{Foremost, Working};
+ghost use Rattle.board.specs.Turns.{sooner};
 
 use crate::jobs::{Jobs, KnownRow};
 use crate::turn::Turn;
@@ -12,9 +14,10 @@ use rules::slots::{Job, Slot};
 use table::rows::MOST_ROWS;
 
 impl Jobs {
-    /// No row was released yet.
+    /// No row was released yet. Turns go by a linear order.
     pub(crate) fn new() -> Jobs
-        ensures { result.slots ≡ replicate 64 empty }
+        ensures slots { result.slots ≡ replicate 64 empty }
+        ensures order { Linear sooner }
     {
         Jobs {
             slots: [Slot::default(); MOST_ROWS],

@@ -1,10 +1,12 @@
 //! How a walk begins, and goes on from point to point.
 ghost use Rattle.std.specs.Prelude.{◌≡◌, ℕ, ◌+◌, ◌<◌, ◌≤◌, length, take, MatchResult, slice_index_or};
 ghost use Rattle.std.specs.List.{AllByRecursion};
+ghost use Rattle.queue.specs.Order.{Linear};
 ghost use Rattle.table.specs.Rows.{rows_of};
 ghost use Rattle.table.specs.Tasks.{task_at};
 ghost use Rattle.planner.specs.Demand.{need};
 ghost use Rattle.planner.specs.Margins.{LeastMargin, Overdemands};
+ghost use Rattle.planner.specs.Points.{sooner};
 ghost use Rattle.planner.specs.Standing.{horizon};
 ghost use Rattle.planner.specs.Walks.{Onward};
 
@@ -14,10 +16,11 @@ use refusal::cases::Refusal;
 use table::rows::{MOST_ROWS, Table};
 
 impl<'a> Walk<'a> {
-    /// Before the first point of every row, which is at its due.
+    /// Before the first point of every row, which is at its due. Points go by a linear order.
     pub(crate) fn new(table: &'a Table) -> Walk<'a>
         ensures tasks { result.tasks.now ≡ rows_of table.now }
         ensures start { result.at ≡ 1 }
+        ensures order { Linear sooner }
     {
         let tasks = table.tasks();
         let mut points = [Point::default(); MOST_ROWS];

@@ -2,7 +2,7 @@
 use Rattle.std.proofs.Common.{◌≤◌, length, ◌∙◌, arith}
 use Rattle.std.proofs.lemmas.List.{length-take-le, get_or-take}
 use Rattle.queue.specs.Order.{before}
-use Rattle.queue.proofs.Order.{linear}
+use Rattle.queue.proofs.Order.{ranked}
 use Rattle.queue.proofs.Held.{first, went_out}
 use Rattle.queue.proofs.pop.Goals as goal
 
@@ -15,4 +15,4 @@ returns g c =
     let inside = out.inside in
     let fits : n ≤ length xs = omega arith in
     let some : 1 ≤ n = omega (arith, length-take-le n xs fits) in
-    (first (before g.T.Ord.cmp) (linear g.T.Ord.cmp g.met.T.Ord.total) xs n x some fits (out.value ∙ get_or-take n xs 0 x some), went_out (before g.T.Ord.cmp) xs _ n 0 x fits c.take_out.auto.s out)
+    (first (before g.T.Ord.cmp) (ranked g.T.Ord.cmp g.met.T.Ord.total) xs n x some fits (out.value ∙ get_or-take n xs 0 x some), went_out (before g.T.Ord.cmp) xs _ n 0 x fits c.take_out.auto.s out)

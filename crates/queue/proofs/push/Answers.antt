@@ -4,7 +4,7 @@ use Rattle.std.specs.List.Sorted.{IsPermutation}
 use Rattle.std.proofs.lemmas.List.{length-take-le}
 use Rattle.queue.specs.Queue.{Heaped}
 use Rattle.queue.specs.Order.{before}
-use Rattle.queue.proofs.Order.{linear}
+use Rattle.queue.proofs.Order.{ranked}
 use Rattle.queue.proofs.Held.{put_last, came, part_back, rest_set, within_front}
 use Rattle.queue.proofs.push.Goals as goal
 
@@ -25,7 +25,7 @@ returns g c =
       queue = λ q. (
         within_front ys _ (n + 1) (omega arith),
         subst (Heaped (before g.T.Ord.cmp)) (sym back)
-            (told.heaped (put_last (before g.T.Ord.cmp) (linear g.T.Ord.cmp g.met.T.Ord.total) xs n x below q.1)),
+            (told.heaped (put_last (before g.T.Ord.cmp) (ranked g.T.Ord.cmp g.met.T.Ord.total) xs n x below q.1)),
       );
       rest = rest_set xs ys (n + 1) n x long (omega arith);
     }

@@ -2,7 +2,7 @@
 use Rattle.std.proofs.Common.{arith}
 use Rattle.std.proofs.lemmas.List.Sorted.{IsPermutation-trans}
 use Rattle.queue.specs.Order.{before}
-use Rattle.queue.proofs.Order.{linear}
+use Rattle.queue.proofs.Order.{ranked}
 use Rattle.queue.proofs.Heaps.{sinks}
 use Rattle.queue.proofs.sift.sink.Goals as goal
 
@@ -14,6 +14,6 @@ loop-at-preserved g c =
     let told = w.ensures.by_index in
     let long = w.ensures.len in (
       IsPermutation-trans _ _ _ l.invariant.0 w.ensures.permutation,
-      λ hole. sinks (before g.T.Ord.cmp) (linear g.T.Ord.cmp g.met.T.Ord.total) l.s w.new.self l.at child.result (omega arith) (omega arith) (omega arith)
+      λ hole. sinks (before g.T.Ord.cmp) (ranked g.T.Ord.cmp g.met.T.Ord.total) l.s w.new.self l.at child.result (omega arith) (omega arith) (omega arith)
           (record { first = told.0; second = told.1; other = told.2; long = long }) child.ensures.foremost c.if-not-earlier.ensures (l.invariant.1 hole),
     )

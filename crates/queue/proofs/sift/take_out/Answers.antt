@@ -3,7 +3,7 @@ use Rattle.std.proofs.Common.{rules, ◌≡◌, ◌-◌, ◌<◌, ◌∷◌, len
 use Rattle.std.specs.List.Sorted.{IsPermutation}
 use Rattle.queue.specs.Order.{before}
 use Rattle.queue.specs.Queue.{Heaped}
-use Rattle.queue.proofs.Order.{linear}
+use Rattle.queue.proofs.Order.{ranked}
 use Rattle.queue.proofs.Held.{last_out, went, part_back}
 use Rattle.queue.proofs.sift.take_out.Goals as goal
 
@@ -25,5 +25,5 @@ returns g c =
       inside = inside;
       value = value;
       held = subst (λ l. IsPermutation xs (x ∷ l)) (sym back) (went xs ys zs n x (omega arith) long (value ∙ sym (w.by_index.1 x)) w.permutation told.shuffled);
-      heaped = λ heap. subst (Heaped (before g.T.Ord.cmp)) (sym back) (told.heaped (last_out (before g.T.Ord.cmp) (linear g.T.Ord.cmp g.met.T.Ord.total) xs ys c.args.at _ inside (omega arith) long (λ k d u v. w.by_index.2 k d u (omega arith)) heap));
+      heaped = λ heap. subst (Heaped (before g.T.Ord.cmp)) (sym back) (told.heaped (last_out (before g.T.Ord.cmp) (ranked g.T.Ord.cmp g.met.T.Ord.total) xs ys c.args.at _ inside (omega arith) long (λ k d u v. w.by_index.2 k d u (omega arith)) heap));
     }

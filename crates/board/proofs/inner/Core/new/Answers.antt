@@ -11,8 +11,8 @@ invariant_of-result c =
       clock = omega arith;
       given = omega arith;
       rest = omega arith;
-      past = past_fresh c.new.result.slots c.new.ensures;
-      listed = below_fresh _ c.new.result.slots c.new.ensures;
+      past = past_fresh c.new.result.slots c.new.ensures.slots;
+      listed = below_fresh _ c.new.result.slots c.new.ensures.slots;
     }
 
 pub returns : goal.returns
@@ -24,5 +24,5 @@ returns c =
       ran = refl;
       slept = refl;
       mode = refl;
-      slots = front_fresh (length (planned p)) c.new.result.slots (omega (arith, few p)) c.new.ensures;
+      slots = front_fresh (length (planned p)) c.new.result.slots (omega (arith, few p)) c.new.ensures.slots;
     }

@@ -1,5 +1,5 @@
 -- The row's job is open, so its turn is held, and leaves with it.
-use Rattle.std.proofs.Common.{rules, ◌≡◌, ◌<◌, length, take, subst, refl, ◌∙◌, inl, inr, arith}
+use Rattle.std.proofs.Common.{rules, ◌<◌, length, take, refl, ◌∙◌, inl, inr, arith}
 use Rattle.std.proofs.lemmas.Bool.{some_since}
 use Rattle.std.proofs.lemmas.List.{length-set}
 use Rattle.std.proofs.lemmas.Option.{MatchOption-at_some}
@@ -15,10 +15,10 @@ unwrap-self-requires c =
     let row = c.args.known.row in
     let job = c.unwrap-due.result in
     let held = open_held s.slots (take s.held s.turns) row job s.queued c.unwrap-due.ensures in
-    some_since c.remove.result _ _ c.remove.ensures
+    some_since c.remove.result _ _ (c.remove.ensures.exact (λ y same. search rules))
     (λ h. elim h.0 [
       | inl over ↦ omega (arith, over)
-      | inr gone ↦ gone (turn_of row job) (search rules) held
+      | inr gone ↦ gone held
     ])
 
 pub invariant_of-self : goal.invariant_of-self
@@ -26,10 +26,8 @@ invariant_of-self c =
     let s = c.args.self.now in
     let row = c.args.known.row in
     let job = c.unwrap-due.result in
-    let out = MatchOption-at_some _ _ c.unwrap-self.result c.unwrap-self.ensures c.remove.ensures in
-    let is : out.0 ≡ turn_of row job = search rules in
     let e : Left sooner (turn_of row job) s.turns s.held c.remove.new.heap c.unwrap-self.result =
-    subst (λ t. Left sooner t s.turns s.held c.remove.new.heap c.unwrap-self.result) is out.2 in
+    MatchOption-at_some _ _ c.unwrap-self.result c.unwrap-self.ensures (c.remove.ensures.exact (λ y same. search rules)) in
     let l : row < length s.slots = omega arith in
     let q = e.queue (omega arith, s.ordered) in
     record {

@@ -3,6 +3,7 @@ use Rattle.std.proofs.Common.{◌≡◌, replicate, [], sym, subst, refl, arith,
 use Rattle.rules.specs.declared.slots.Slot.{Slot}
 use Rattle.rules.specs.Views.{empty}
 use Rattle.board.specs.Turns.{Queued}
+use Rattle.board.proofs.Ordered.{turns_linear}
 use Rattle.board.proofs.Queueing.{queued_fresh}
 use Rattle.board.proofs.jobs.Jobs.new.Goals as goal
 
@@ -16,3 +17,6 @@ invariant_of-result c =
       ordered = (λ k d l. absurd (omega arith));
       queued = subst (λ (slot : Slot). Queued (replicate 64 slot) []) (sym blank) queued_fresh;
     }
+
+pub returns-clause-order : goal.returns-clause-order
+returns-clause-order c = turns_linear

@@ -2,6 +2,7 @@
 use Rattle.std.proofs.Common.{◌≡◌, ◌+◌, take, sym, refl, ap, subst, arith}
 use Rattle.table.specs.Tasks.{task_at}
 use Rattle.planner.specs.declared.point.Point.{Point}
+use Rattle.planner.proofs.Ordered.{points_linear}
 use Rattle.planner.proofs.Steps.{Partly, partly_none, partly_more}
 use Rattle.planner.proofs.walk.Walk.new.Goals as goal
 
@@ -24,3 +25,6 @@ loop-task-preserved c =
       subst (Partly tasks (take c.unwrap-held.result heap)) (sym more)
           (partly_more tasks (take row l.points) (take c.unwrap-held.result heap) p told.whole l.invariant.3 (omega arith) (ap (λ n. (task_at tasks n).due) (sym l.invariant.1)) into.held),
     )
+
+pub returns-clause-order : goal.returns-clause-order
+returns-clause-order c = points_linear
