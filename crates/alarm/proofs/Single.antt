@@ -12,7 +12,7 @@ by_quotient p k m (suc r) hp hk e near =
     let most = near.largest r (omega arith) (omega arith) in
     ⊎_elim (λ none. omega arith) (λ some. omega (arith, near.within)) near.one
 
-nearest_is_one : (p k m : ℕ) → p < period → k ≤ divider_reach → Nearest p k m → m ≡ (k + p) / period * period - p
+pub nearest_is_one : (p k m : ℕ) → p < period → k ≤ divider_reach → Nearest p k m → m ≡ (k + p) / period * period - p
 nearest_is_one p k m hp hk near = by_quotient p k m ((k + p) / period) hp hk refl near
 
 pub divider_chooses : (x y : Divider) (n m : ℕ) → SetTo divider_alarm.ghosts x n m y

@@ -1,4 +1,4 @@
-//! The countdown that every kind keeps: what is left of a wait.
+//! The countdown that every kind keeps: what is left to count, ticks but in a divider, which counts boundaries.
 ghost use Rattle.std.specs.Prelude.{◌≡◌, ℕ, ◌≤◌, Some, None};
 ghost use Rattle.alarm.specs.Meaning.{waiting, onward, rings};
 
@@ -38,10 +38,18 @@ impl Countdown {
         ensures rings { result ≡ rings self.old.rest }
         ensures left { self.new.rest ≡ onward self.old.rest }
     {
-        let Some(left) = self.left() else {
-            return false;
-        };
-        *self = Countdown::of(left - 1);
-        left == 1
+        // By the last tick and the others, which keeps a pass a jump and a decrement: with one way for both, a whole wait takes
+        // twice as long.
+        match self.left() {
+            None => false,
+            Some(1) => {
+                *self = Countdown::unset();
+                true
+            }
+            Some(left) => {
+                *self = Countdown::of(left - 1);
+                false
+            }
+        }
     }
 }
