@@ -2,7 +2,7 @@
 ghost use Rattle.std.specs.Prelude.{◌≡◌, ℕ, ◌≤◌, Some, None};
 ghost use Rattle.alarm.specs.Meaning.{waiting, onward, rings};
 
-/// What is left of a wait, at least 1, or none where it is unset.
+/// What is left to count, at least 1, or none where it is unset.
 #[derive(Clone, Copy)]
 pub struct Countdown {
     rest: Option<u32>,
@@ -17,7 +17,7 @@ impl Countdown {
         Countdown { rest: None }
     }
 
-    /// A countdown of this wait; a wait of 0 is over at once, and leaves it unset.
+    /// A countdown of this many; of 0 it is over at once, and unset.
     pub fn of(wait: u32) -> Countdown
         ensures { result.rest ≡ waiting wait }
     {
@@ -38,7 +38,7 @@ impl Countdown {
         ensures rings { result ≡ rings self.old.rest }
         ensures left { self.new.rest ≡ onward self.old.rest }
     {
-        // By the last tick and the others, which keeps a pass a jump and a decrement: with one way for both, a whole wait takes
+        // By the last and the others, which keeps a pass a jump and a decrement: with one way for both, a whole wait takes
         // twice as long.
         match self.left() {
             None => false,
